@@ -1,0 +1,6 @@
+-- Lines of the slip program: the scan for a byte, fields, a line's answer.
+pub mod Buffer
+pub mod Scan
+pub mod Fields
+pub mod Line
+pub mod Output
