@@ -24,7 +24,7 @@ fields (b ∷ s) = if eqb b 32 then [] ∷ fields s else grow b (fields s)
 
 -- the first field ends at the first space, or at the end
 fields-one : (s : List ℕ) → position 32 s ≡ length s → fields s ≡ s ∷ []
-unfolding fields position
+unfolding fields
 fields-one [] h = refl
 fields-one (b ∷ s) h = go (eqb b 32) h (fields-one s)
   where
@@ -34,7 +34,7 @@ fields-one (b ∷ s) h = go (eqb b 32) h (fields-one s)
     go false h f = rw (f (omega arith))
 
 fields-more : (s : List ℕ) → position 32 s < length s → fields s ≡ take (position 32 s) s ∷ fields (drop (suc (position 32 s)) s)
-unfolding fields position
+unfolding fields
 fields-more [] h = absurd (omega arith)
 fields-more (b ∷ s) h = go (eqb b 32) h (fields-more s)
   where

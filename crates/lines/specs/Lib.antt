@@ -4,3 +4,9 @@ pub mod Scan
 pub mod Fields
 pub mod Line
 pub mod Output
+pub mod Lines
+pub mod Feed
+pub mod LineLaws
+pub mod Calls
+pub mod Stream
+pub mod FeedLaws

@@ -13,19 +13,18 @@ use borrow.Author.Tests.{eq-eqb, ne-eqb}
 use Rattle.directed.specs.Choice.{if_then_else_}
 
 -- x is none of the bytes
-unfoldable pub absent : ℕ → List ℕ → Bool
+abbrev pub absent : ℕ → List ℕ → Bool
 absent x [] = true
 absent x (b ∷ s) = if eqb b x then false else absent x s
 
 -- where x stands first; the length where it is absent
-unfoldable pub position : ℕ → List ℕ → ℕ
+abbrev pub position : ℕ → List ℕ → ℕ
 position x [] = 0
 position x (b ∷ s) = if eqb b x then 0 else suc (position x s)
 
 -- one byte of the block test, and its end
 module _ (x : ℕ) (s : List ℕ) (i : ℕ) where
   pub absent-hit : (clear : Bool) → i < length s → getD s i 0 ≡ x → cond clear (absent x (drop i s)) false ≡ false
-  unfolding absent
   absent-hit clear h e = rw (drop-cons s i 0 h, eq-eqb (getD s i 0) x e) (go clear)
     where
       go : (y : Bool) → cond y false false ≡ false
@@ -33,11 +32,9 @@ module _ (x : ℕ) (s : List ℕ) (i : ℕ) where
       go false = refl
 
   pub absent-miss : i < length s → (getD s i 0 ≡ x → ⊥) → absent x (drop i s) ≡ absent x (drop (i + 1) s)
-  unfolding absent
   absent-miss h n = rw (drop-cons s i 0 h, ne-eqb (getD s i 0) x n, add-one)
 
   pub absent-end : (clear : Bool) → length s ≤ i → clear ≡ cond clear (absent x (drop i s)) false
-  unfolding absent
   absent-end clear h = rw (drop-of-length-le s h) (go clear)
     where
       go : (y : Bool) → y ≡ cond y true false
@@ -46,7 +43,6 @@ module _ (x : ℕ) (s : List ℕ) (i : ℕ) where
 
 -- the position behind bytes that are passed
 pub position-behind : (x : ℕ) (p t : List ℕ) → absent x p ≡ true → position x (p ++ t) ≡ length p + position x t
-unfolding absent position
 position-behind x [] t h = sym (zero-add (position x t))
 position-behind x (b ∷ p) t h = go (eqb b x) h (position-behind x p t)
   where
@@ -66,25 +62,21 @@ module _ (x : ℕ) (s : List ℕ) (i : ℕ) where
       omega arith
 
   pub position-miss : i < length s → (getD s i 0 ≡ x → ⊥) → (i + 1) + position x (drop (i + 1) s) ≡ i + position x (drop i s)
-  unfolding position
   position-miss h n =
       let e : position x (drop i s) ≡ suc (position x (drop (suc i) s)) = rw (drop-cons s i 0 h, ne-eqb (getD s i 0) x n) in
       rw add-one (omega arith)
 
   pub position-hit : i < length s → getD s i 0 ≡ x → i ≡ i + position x (drop i s)
-  unfolding position
   position-hit h e =
       let z : position x (drop i s) ≡ 0 = rw (drop-cons s i 0 h, eq-eqb (getD s i 0) x e) in
       omega arith
 
   pub position-end : length s ≤ i → i ≡ i + position x (drop i s)
-  unfolding position
   position-end h =
       let z : position x (drop i s) ≡ 0 = rw (drop-of-length-le s h) in
       omega arith
 
 pub position-within : (x : ℕ) (s : List ℕ) → position x s ≤ length s
-unfolding position
 position-within x [] = omega arith
 position-within x (b ∷ s) = go (eqb b x) (position-within x s)
   where

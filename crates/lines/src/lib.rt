@@ -9,6 +9,7 @@ ghost use Rattle.lines.specs.Fields.{fields, fields-behind};
 ghost use Rattle.lines.specs.Line.{first-field, second-field, binary, with-pair, two, three, operate, operate-first, answer as answer-of};
 mod output;
 mod scan;
+pub mod stream;
 use directed::Answer;
 use directed::Cause;
 use directed::Interval;
@@ -74,4 +75,20 @@ fn second_of(field: &[u8]) -> SecondField
         return SecondField::Equation;
     }
     SecondField::NoOperation
+}
+
+// What was made of the bytes from a place on: how many lines are answered, the place behind them, how much of the buffer is filled, and
+// whether it was too full for a line that is there.
+pub struct Fed {
+    pub lines: u32,
+    pub at: usize,
+    pub filled: usize,
+    pub more: bool,
+}
+
+// The answer to a line, its byte 10 not counted.
+pub fn answer(line: &[u8]) -> Answer
+    ensures { λ r. ⌜ outcome r ≡ answer-of (now (line .entry)) ⌝ }
+{
+    Answer::Refused(Cause::MalformedLine)
 }
