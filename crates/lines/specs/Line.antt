@@ -1,5 +1,5 @@
 -- Document 01, "Text and lines" and "Table of causes": what a line is answered. Assumes nothing.
-use mathlib.Core.Path.{_≡_, refl}
+use mathlib.Core.Path.{_≡_, refl, sym, ap, _∙_}
 use mathlib.Core.List.{List, [], _∷_}
 use Prim.Native.Nat.{ℕ}
 use lib.Dec.{eqb, ltb}
@@ -9,7 +9,10 @@ use Rattle.directed.specs.declared.Interval.{Interval}
 use Rattle.directed.specs.declared.Rounding.{Rounding}
 use Rattle.directed.specs.declared.Rounding.the-variants.{Outward, Inward}
 use Rattle.directed.specs.Choice.{if_then_else_}
-use Rattle.directed.specs.Answer.{Outcome, value, refusal, sum, difference, product, quotient}
+use Rattle.directed.specs.declared.Cause.{Cause}
+use Rattle.directed.specs.declared.Answer.{Answer}
+use Rattle.directed.specs.declared.Answer.the-variants.{Value, Refused}
+use Rattle.directed.specs.Answer.{Outcome, value, refusal, number, outcome, sum, difference, product, quotient}
 use Rattle.directed.specs.Equation.{equation}
 use Rattle.text.specs.Answer.{read}
 use Rattle.lines.specs.declared.Binary.{Binary}
@@ -115,3 +118,10 @@ module _ {A : Type 0} (meaning : ℕ → A) (other : A) (f : List ℕ) where
       go [] h = refl
       go (b ∷ []) h = absurd (h refl)
       go (b ∷ c ∷ f) h = refl
+
+-- an answer that was got is taken apart
+pub with-value : {o : Answer} {s x : Outcome} {f : Interval → Outcome} {a : Interval} → outcome o ≡ s → o ≡ Value a → x ≡ f a → x ≡ with-pair s f
+with-value {f = f} e v h = h ∙ ap (λ o. with-pair (outcome o) f) (sym v) ∙ ap (λ s. with-pair s f) e
+
+pub with-refused : {o : Answer} {s : Outcome} {k : Cause} (f : Interval → Outcome) → outcome o ≡ s → o ≡ Refused k → refusal (number k) ≡ with-pair s f
+with-refused f e v = ap (λ o. with-pair (outcome o) f) (sym v) ∙ ap (λ s. with-pair s f) e
