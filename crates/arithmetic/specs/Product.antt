@@ -5,9 +5,9 @@ use lib.Signed.{ltZ}
 use Rattle.directed.specs.declared.Interval.{Interval}
 use Rattle.directed.specs.Choice.{if_then_else_}
 use Rattle.directed.specs.Thousandths.{smaller, larger}
-use Rattle.arithmetic.specs.declared.product.Kind.{Kind}
-use Rattle.arithmetic.specs.declared.product.Kind.the-variants.{Positive, Negative, ProperZero, ImproperZero}
-use Rattle.arithmetic.specs.declared.product.Ends.{Ends}
+use Rattle.arithmetic.specs.declared.products.Kind.{Kind}
+use Rattle.arithmetic.specs.declared.products.Kind.the-variants.{Positive, Negative, ProperZero, ImproperZero}
+use Rattle.arithmetic.specs.declared.products.Ends.{Ends}
 
 abbrev pub ends : ℤ → ℤ → Ends
 ends l u = record { lower = l; upper = u }

@@ -2,6 +2,7 @@
 ghost use mathlib.Core.Path.{_≡_};
 ghost use Prim.Native.Nat.{_≤_};
 ghost use lib.IntN.{natAbs, negℤ, _+ℤ_, _-ℤ_, _*ℤ_};
+ghost use Rattle.directed.specs.Thousandths as thousandths;
 ghost use Rattle.directed.specs.Thousandths.{interval};
 ghost use Rattle.directed.specs.Answer.{outcome, in-range};
 ghost use Rattle.arithmetic.specs.Division.{Divides};
@@ -13,7 +14,7 @@ use directed::Interval;
 use directed::Rounding;
 
 pub fn wide(a: i32) -> i64
-    ensures { λ r. ⌜ r ≡ a ⌝ }
+    ensures { λ r. ⌜ (r ≡ a) × (natAbs r ≤ 4294967296) ⌝ }
 {
     a as i64
 }
@@ -28,6 +29,24 @@ pub fn difference(a: i32, b: i32) -> i64
     ensures { λ r. ⌜ (r ≡ a -ℤ b) × (natAbs r ≤ 4294967296) ⌝ }
 {
     a as i64 - b as i64
+}
+
+pub fn negation(a: i32) -> i64
+    ensures { λ r. ⌜ r ≡ negℤ a ⌝ }
+{
+    0 - a as i64
+}
+
+pub fn smaller(a: i32, b: i32) -> i64
+    ensures { λ r. ⌜ r ≡ thousandths.smaller a b ⌝ }
+{
+    if a <= b { wide(a) } else { wide(b) }
+}
+
+pub fn larger(a: i32, b: i32) -> i64
+    ensures { λ r. ⌜ r ≡ thousandths.larger a b ⌝ }
+{
+    if a <= b { wide(b) } else { wide(a) }
 }
 
 pub fn product(a: i32, b: i32) -> i64

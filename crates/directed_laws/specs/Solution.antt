@@ -108,7 +108,7 @@ reciprocal-below zero z h g = absurd (omega arith)
 reciprocal-below (suc k) (pos z) h g = absurd (omega lin)
 reciprocal-below (suc k) (negsuc z) h g = (refl, refl)
 
-reciprocal-free : (c : Exact) (s : Sign) → sort c ≡ zero-free s → sort (reciprocal (dual c)) ≡ zero-free s
+pub reciprocal-free : (c : Exact) (s : Sign) → sort c ≡ zero-free s → sort (reciprocal (dual c)) ≡ zero-free s
 unfolding sort
 reciprocal-free c ⁺ e = rw (reciprocal-above (c .lower .den) (c .lower .num) (c .lower .above) (free-ends c ⁺ e ⁻), reciprocal-above (c .upper .den) (c .upper .num) (c .upper .above) (free-ends c ⁺ e ⁺)) refl
 reciprocal-free c ⁻ e =
@@ -136,7 +136,7 @@ rest-at : (a b : Exact) (i : Sign) → (b ⊟ dual a) ! i ≡ b ! i -ᶠ a ! i
 rest-at a b ⁻ = refl
 rest-at a b ⁺ = refl
 
-reciprocal-at : (c : Exact) (i : Sign) → reciprocal (dual c) ! i ≡ 1/ (c ! i)
+pub reciprocal-at : (c : Exact) (i : Sign) → reciprocal (dual c) ! i ≡ 1/ (c ! i)
 reciprocal-at c ⁻ = refl
 reciprocal-at c ⁺ = refl
 
