@@ -2,7 +2,7 @@
 use mathlib.Core.Path.{_≡_, refl, sym, ap, _∙_, subst}
 use mathlib.Core.Logic.{_↔_, _⊎_, inl, inr}
 use Prim.Native.Nat.{ℕ, zero, suc, _+_, _*_, _-_, _≤_, _<_}
-use native.Mathlib.Nat.{mul-le-mul-right, le-of-mul-le-mul-right}
+use native.Mathlib.Nat.{mul-le-mul-right, mul-lt-mul-of-pos-right, le-of-mul-le-mul-right}
 use native.Mathlib.Omega.{arith}
 use lib.IntN.{ℤ, pos, negsuc, negℤ, _+ℤ_, _-ℤ_, _*ℤ_}
 use mathlib.Core.Bool.{Bool, true, false, not}
@@ -58,6 +58,12 @@ pub *ℤ-mono : (a b c : ℤ) → pos 0 ≤ℤ c → a ≤ℤ b → (a *ℤ c) �
     le-read' : a ≤ℤ b → up a + dn b ≤ up b + dn a
     le-read' h = omega lin
 *ℤ-mono a b (negsuc c) z h = absurd (z .le)
+
+pub *ℤ-strict : (a b : ℤ) (k : ℕ) → 0 < k → a <ℤ b → (a *ℤ pos k) <ℤ (b *ℤ pos k)
+*ℤ-strict a b k z h = omega (lin, times a (pos k), times b (pos k), mul-lt-mul-of-pos-right {k = k} (lt-parts h) z)
+  where
+    lt-parts : a <ℤ b → up a + dn b < up b + dn a
+    lt-parts h = omega lin
 
 pub *ℤ-anti : (a b c : ℤ) → c ≤ℤ pos 0 → a ≤ℤ b → (b *ℤ c) ≤ℤ (a *ℤ c)
 *ℤ-anti a b c z h =

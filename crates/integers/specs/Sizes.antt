@@ -1,15 +1,13 @@
 -- Sizes of whole numbers: `natAbs`, and the range of a signed width, in the terms that `omega` reads. Assumes nothing.
-use mathlib.Core.Path.{_≡_, refl, sym, ap, _∙_, subst}
-use Prim.Native.Nat.{ℕ, zero, suc, _+_, _*_, _-_, _/_, _^_, _≤_, _<_, min}
+use mathlib.Core.Path.{_≡_, refl}
+use Prim.Native.Nat.{ℕ, _<_, _^_, _-_, _≤_, zero, suc, _+_, _*_, min}
+use native.Mathlib.Nat.{mul-le-mul}
 use native.Mathlib.Omega.{arith}
-use native.Mathlib.Nat.{mul-le-mul, div-le-self}
-use lib.Dec.{T, leb, leb→le}
-use lib.IntN.{ℤ, pos, negsuc, negℤ, natAbs, _+ℤ_, _-ℤ_, _*ℤ_}
-use lib.Signed.{mag, quotZ, shrZ, _≤ℤ_, _<ℤ_}
-use mir.Syntax.{Width, w64, w32}
-use mir.Val.{SFits, hbits, toZ, ofZ}
-use mir.ValLaws.{toZ-ofZ}
-use Rattle.integers.specs.Parts.{up, dn, sum, minus, times, lin}
+use lib.IntN.{ℤ, _+ℤ_, pos, negsuc, natAbs, _-ℤ_, negℤ, _*ℤ_}
+use lib.Signed.{mag}
+use mir.Syntax.{w32, w64, Width}
+use mir.Val.{SFits, hbits}
+use Rattle.integers.specs.Parts.{sum, up, dn, less, lin}
 
 -- one part is 0
 pub canon : (z : ℤ) → min (up z) (dn z) ≡ 0
@@ -62,6 +60,19 @@ abs-neg (pos zero) = refl
 abs-neg (pos (suc n)) = refl
 abs-neg (negsuc n) = refl
 
--- two numbers up to 2 ^ 31 have a product up to 2 ^ 62
-pub product-31 : (x y : ℕ) → x ≤ 2147483648 → y ≤ 2147483648 → x * y ≤ 4611686018427387904
-product-31 x y h k = mul-le-mul h k
+-- ---- what two 32-bit numbers give fits 64 bits
+module _ (a b : ℤ) (f : SFits w32 a) (g : SFits w32 b) where
+  pub sum-fits : SFits w64 (a +ℤ b)
+  sum-fits = omega (linf, sum a b, mag-is a, mag-is b, canon (a +ℤ b))
+
+  pub difference-fits : SFits w64 (a -ℤ b)
+  difference-fits = omega (linf, less a b, mag-is a, mag-is b, canon (a -ℤ b))
+
+  pub difference-size : natAbs (a -ℤ b) ≤ 4294967296
+  difference-size = omega (linf, less a b, mag-is a, mag-is b, abs-is (a -ℤ b), canon (a -ℤ b))
+
+  pub product-size : natAbs (a *ℤ b) ≤ 4611686018427387904
+  product-size = abs-times-le a b 2147483648 2147483648 (omega (linf, mag-is a, abs-is a, canon a)) (omega (linf, mag-is b, abs-is b, canon b))
+
+  pub product-fits : SFits w64 (a *ℤ b)
+  product-fits = fits-abs w64 _ (omega (arith, product-size))
