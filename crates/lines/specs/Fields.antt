@@ -78,3 +78,25 @@ module _ (s : List ℕ) (at e : ℕ) (within : at ≤ length s) (found : e ≡ a
       go : Dec (e < length s) → fields (drop at s) ≡ take (e - at) (drop at s) ∷ fields-behind s e
       go (yes h) = next-field h
       go (no h) = last-field (omega (arith, found-within 32 s at within))
+
+-- the field behind the one that ends at `end`, and those behind it
+pub field-behind : (s : List ℕ) (end e : ℕ) → end < length s → e ≡ end + 1 + position 32 (drop (end + 1) s)
+    → fields-behind s end ≡ take (e - (end + 1)) (drop (end + 1) s) ∷ fields-behind s e
+field-behind s end e h found = some-behind s end h ∙ field-at s (end + 1) e (omega arith) found
+
+pub and-then : {f : List ℕ} {fs gs : List (List ℕ)} → fs ≡ gs → f ∷ fs ≡ f ∷ gs
+and-then {f} e = ap (λ fs. f ∷ fs) e
+
+-- there is always a field
+pub some-field : (P : List (List ℕ) → Type 0) → ((f : List ℕ) (fs : List (List ℕ)) → P (f ∷ fs)) → (s : List ℕ) → P (fields s)
+unfolding fields
+some-field P p [] = p [] []
+some-field P p (b ∷ s) = go (eqb b 32) (fields s)
+  where
+    go : (x : Bool) (fs : List (List ℕ)) → P (cond x ([] ∷ fs) (grow b fs))
+    go true fs = p [] fs
+    go false [] = p (b ∷ []) []
+    go false (f ∷ fs) = p (b ∷ f) fs
+
+pub some-field-behind : (P : List (List ℕ) → Type 0) → ((f : List ℕ) (fs : List (List ℕ)) → P (f ∷ fs)) → (s : List ℕ) (e : ℕ) → e < length s → P (fields-behind s e)
+some-field-behind P p s e h = rw (some-behind s e h) (some-field P p (drop (e + 1) s))

@@ -120,8 +120,8 @@ module _ {A : Type 0} (meaning : ℕ → A) (other : A) (f : List ℕ) where
       go (b ∷ c ∷ f) h = refl
 
 -- an answer that was got is taken apart
-pub with-value : {o : Answer} {s x : Outcome} {f : Interval → Outcome} {a : Interval} → outcome o ≡ s → o ≡ Value a → x ≡ f a → x ≡ with-pair s f
-with-value {f = f} e v h = h ∙ ap (λ o. with-pair (outcome o) f) (sym v) ∙ ap (λ s. with-pair s f) e
+pub with-value : {o : Answer} {s x : Outcome} (f : Interval → Outcome) {a : Interval} → outcome o ≡ s → o ≡ Value a → x ≡ f a → x ≡ with-pair s f
+with-value f e v h = h ∙ ap (λ o. with-pair (outcome o) f) (sym v) ∙ ap (λ s. with-pair s f) e
 
 pub with-refused : {o : Answer} {s : Outcome} {k : Cause} (f : Interval → Outcome) → outcome o ≡ s → o ≡ Refused k → refusal (number k) ≡ with-pair s f
 with-refused f e v = ap (λ o. with-pair (outcome o) f) (sym v) ∙ ap (λ s. with-pair s f) e
