@@ -17,7 +17,8 @@ use Rattle.directed.specs.Answer.{Outcome, value, refusal, in-range, divided-by
 use Rattle.directed.specs.Equation.{equation, of-three}
 use Rattle.text.specs.Digits.{decimal, width, width-within}
 use Rattle.text.specs.DigitLaws.{decimal-length, width-le}
-use Rattle.text.specs.Text.{text, text-length}
+use Rattle.text.specs.Text.{text}
+use Rattle.text.specs.TextLaws.{text-longest}
 use Rattle.text.specs.Answer.{read}
 use Rattle.lines.specs.declared.Binary.{Binary}
 use Rattle.lines.specs.declared.Binary.the-variants.{Sum, Difference, Product, Quotient}
@@ -135,7 +136,7 @@ decimal-short n = omega (arith, decimal-length n, widths 6 n)
 
 pub body-short : (o : Outcome) → Printable o → length (body o) ≤ 27
 unfolding body
-body-short (value a) (printed h) = text-length a h
+body-short (value a) (printed h) = text-longest a h
 body-short (refusal k) refused = omega (arith, decimal-short k)
 
 pub number-short : (n : ℕ) → n < 1000000 → length (decimal n) ≤ 6

@@ -8,7 +8,8 @@ use lib.ListN.{length, take, drop, length-take, length-drop}
 use Rattle.directed.specs.declared.Interval.{Interval}
 use Rattle.directed.specs.Thousandths.{beyond-range}
 use borrow.Author.Tests.{le-leb}
-use Rattle.text.specs.Text.{text, text-length}
+use Rattle.text.specs.Text.{text}
+use Rattle.text.specs.TextLaws.{text-longest}
 use Rattle.text.specs.Answer.{over, told, length-told, refusal-told, writing, write as write-of}
 use Rattle.text.specs.declared.Written.{Written}
 use Rattle.text.specs.declared.Written.the-variants.{Length, Refused}
@@ -29,7 +30,7 @@ module _ (a : Interval) (xs ys : List ℕ) (at : ℕ) (r : Written) (h : beyond-
   accepted : write-of a rest ≡ writing (Length (length (text a))) (over (text a) rest)
   unfolding write-of rest
   accepted =
-      let e : length (text a) ≤ length (take (length xs - at) (drop at xs)) = simp (length-take, length-drop) (omega (arith, text-length a h)) in
+      let e : length (text a) ≤ length (take (length xs - at) (drop at xs)) = simp (length-take, length-drop) (omega (arith, text-longest a h)) in
       rw (h, le-leb (length (text a)) (length (take (length xs - at) (drop at xs))) e)
 
   told-is : told r ≡ length-told (length (text a))
@@ -47,7 +48,7 @@ module _ (a : Interval) (xs ys : List ℕ) (at : ℕ) (r : Written) (h : beyond-
   wrote : (n : ℕ) → r ≡ Length n → Wrote (text a) at xs (at + n) (take at xs ++ (ys ++ drop (length xs - at) (drop at xs)))
   unfolding rest
   wrote n e =
-      wrote-part (text a) xs ys at (length xs - at) n (omega arith) (omega (arith, text-length a h)) (length-is n e)
+      wrote-part (text a) xs ys at (length xs - at) n (omega arith) (omega (arith, text-longest a h)) (length-is n e)
       (ap (λ w. w .buffer) (is ∙ accepted))
 
 sub-write : tie.Need-sub-write
@@ -69,7 +70,7 @@ add-result : tie.Need-add-result
 add-result c = let a = c .before .before .before .before .before .before .before .before .args in
     let p = c .before .before .before .before .before .before .before .before .pre in
     let w = c .before .before .before .before .before .write in
-    omega (arith, text-length (a .a) (p .0), length-is (a .a) (a .buffer .now) (w .last .1 .0) (a .at) (w .result) (p .0) (p .1) (w .ensures) (c .before .written .given .0 .0) (c .before .written .given .1))
+    omega (arith, text-longest (a .a) (p .0), length-is (a .a) (a .buffer .now) (w .last .1 .0) (a .at) (w .result) (p .0) (p .1) (w .ensures) (c .before .written .given .0 .0) (c .before .written .given .1))
 
 enum-told : tie.Need-enum-told
 enum-told c = search needs
