@@ -3,6 +3,7 @@ pub mod Buffer
 pub mod Scan
 pub mod Fields
 pub mod Line
+pub mod Pairs
 pub mod Output
 pub mod Lines
 pub mod Feed

@@ -30,19 +30,19 @@ returns : tie.Need-returns
 unfolding answer-of of-fields
 returns c = rw (lt-ltb 96 _ (c .if1 .taken))
 
-find-requires : tie.Need-find-requires
-find-requires c κs = search needs
+find-near-requires : tie.Need-find-near-requires
+find-near-requires c κs = search needs
 
 returns-2 : tie.Need-returns-2
 unfolding answer-of of-fields
 returns-2 c = let l = c .before .before .before .before .args .line .now in
-    let f = c .before .find in
+    let f = c .before .find-near in
     let s : fields l ≡ take (f .result - 0) l ∷ [] = field-at l 0 (f .result) (omega arith) (f .ensures) ∙ and-then (none-behind l (f .result) (omega arith)) in
     rw (le-ltb 96 (length l) (omega arith), s)
 
 slice-aggregate-first-of : tie.Need-slice-aggregate-first-of
 slice-aggregate-first-of c = let l = c .before .before .before .before .before .args .line .now in
-    let f = c .before .before .find in
+    let f = c .before .before .find-near in
     let h : f .result < length l = omega (arith, f .ensures, found-within 32 l 0 (omega arith)) in
     sym (length-take-le (f .result) l (omega arith))
 
@@ -54,11 +54,11 @@ enum-known-rounding c = search needs
 
 add-from-second : tie.Need-add-from-second
 add-from-second c = let l = c .before .before .before .before .before .before .before .before .before .args .line .now in
-    omega (arith, c .before .before .before .before .before .before .find .ensures, found-within 32 l 0 (omega arith))
+    omega (arith, c .before .before .before .before .before .before .find-near .ensures, found-within 32 l 0 (omega arith))
 
 from-second-requires : tie.Need-from-second-requires
 from-second-requires c κs = let l = c .before .before .before .before .before .before .before .before .before .args .line .now in
-    omega (arith, c .before .before .before .before .before .before .find .ensures, found-within 32 l 0 (omega arith))
+    omega (arith, c .before .before .before .before .before .before .find-near .ensures, found-within 32 l 0 (omega arith))
 
 enum-told : tie.Need-enum-told
 enum-told c = search needs
@@ -66,7 +66,7 @@ enum-told c = search needs
 returns-3 : tie.Need-returns-3
 unfolding answer-of
 returns-3 c = let l = c .before .before .before .before .before .before .before .before .before .before .args .line .now in
-    let f = c .before .before .before .before .before .before .before .find in
+    let f = c .before .before .before .before .before .before .before .find-near in
     let h : f .result < length l = omega (arith, f .ensures, found-within 32 l 0 (omega arith)) in
     let z : f .result - 0 ≡ f .result = omega arith in
     let e : first-field (take (f .result) l) ≡ Rounds (c .before .before .rounding .given .0 .0) = sym (c .before .before .before .before .first-of .ensures) ∙ c .before .before .rounding .given .1 in
@@ -77,7 +77,7 @@ returns-3 c = let l = c .before .before .before .before .before .before .before 
 returns-4 : tie.Need-returns-4
 unfolding answer-of
 returns-4 c = let l = c .before .before .before .before .before .before .before .before .args .line .now in
-    let f = c .before .before .before .before .before .find in
+    let f = c .before .before .before .before .before .find-near in
     let h : f .result < length l = omega (arith, f .ensures, found-within 32 l 0 (omega arith)) in
     let z : f .result - 0 ≡ f .result = omega arith in
     let e : first-field (take (f .result) l) ≡ NoRounding = sym (c .before .before .first-of .ensures) ∙ c .enum-told .given .1 in
@@ -90,7 +90,7 @@ answer-spec =
     tie.close
     (tie.spec
     returns
-    find-requires
+    find-near-requires
     returns-2
     slice-aggregate-first-of
     first-of-requires
