@@ -3,7 +3,7 @@ use mathlib.Core.Path.{_≡_, refl, sym, ap, ap₂, _∙_}
 use mathlib.Core.Bool.{Bool, true, false, cond, not, _&&_, false≢true, true≢false}
 use mathlib.Core.List.{List, [], _∷_, _++_}
 use Prim.Native.Nat.{ℕ, suc, _+_, _-_, _*_, _≤_, _<_}
-use native.Mathlib.Nat.{add-zero}
+use native.Mathlib.Nat.{add-zero, add-assoc}
 use native.Mathlib.Numerals.{add-one}
 use native.Mathlib.Omega.{arith}
 use lib.Dec.{leb, eqb}
@@ -29,7 +29,7 @@ pub part-list : (text : List ℕ) (at : ℕ) → at + 4 ≤ length text
     → drop at text ≡ getD text at 0 ∷ getD text (at + 1) 0 ∷ getD text (at + 2) 0 ∷ getD text (at + 3) 0 ∷ drop (at + 4) text
 part-list text at h =
     let step : (k : ℕ) → k < 4 → drop (at + k) text ≡ getD text (at + k) 0 ∷ drop (at + (k + 1)) text = λ k m.
-    drop-cons text (at + k) 0 (omega arith) ∙ ap (λ n. getD text (at + k) 0 ∷ drop n text) (omega arith) in
+    let e : suc (at + k) ≡ at + (k + 1) = omega arith in drop-cons text (at + k) 0 (omega arith) ∙ ap (λ n. getD text (at + k) 0 ∷ drop n text) e in
     ap (λ n. drop n text) (sym (add-zero at)) ∙ step 0 (omega arith)
     ∙ ap₂ (λ n l. getD text n 0 ∷ l) (add-zero at) (step 1 (omega arith)
     ∙ ap (λ l. getD text (at + 1) 0 ∷ l) (step 2 (omega arith) ∙ ap (λ l. getD text (at + 2) 0 ∷ l) (step 3 (omega arith))))
@@ -67,7 +67,7 @@ size-refused s at mark n = go (size-form s && starts mark (drop (size-length s) 
     go false n = refl
 
 -- what a text in form with a mark behind it says of what was passed
-module _ {s : List ℕ} {k count value mark : ℕ} (f : Front s k count value) (l : length s ≡ k + 5) (o : (size-form s && starts mark (drop (size-length s) s)) ≡ true) where
+module _ {s : List ℕ} {k count value : ℕ} (mark : ℕ) (f : Front s k count value) (l : length s ≡ k + 5) (o : (size-form s && starts mark (drop (size-length s) s)) ≡ true) where
   in-form : size-form s ≡ true
   in-form = both (size-form s) (starts mark (drop (size-length s) s)) o .0
 
@@ -100,10 +100,10 @@ from-part P.Malformed v next = S.Malformed
 
 module _ {s : List ℕ} {k count value : ℕ} (f : Front s k count value) (l : length s ≡ k + 5) (at mark : ℕ) where
   pub no-width : (width value ≡ count → ⊥) → S.Malformed ≡ size-answer s at mark
-  no-width n = size-refused s at mark (λ o. n (size-width f l o))
+  no-width n = size-refused s at mark (λ o. n (size-width mark f l o))
 
   pub no-point : (getD s count 0 ≡ point → ⊥) → S.Malformed ≡ size-answer s at mark
-  no-point n = size-refused s at mark (λ o. n (size-point f l o))
+  no-point n = size-refused s at mark (λ o. n (size-point mark f l o))
 
   module _ (w : width value ≡ count) (p : getD s count 0 ≡ point) where
     short : count ≤ 7
@@ -138,11 +138,15 @@ module _ {s : List ℕ} {k count value : ℕ} (f : Front s k count value) (l : l
 
     mark-is : drop (size-length s) s ≡ drop 3 (drop (count + 1) s)
     unfolding size-length
-    mark-is = ap (λ n. drop n s) (omega (arith, whole-length)) ∙ sym (drop-drop 3 (count + 1) s)
+    mark-is = let e : length (whole s) + 4 ≡ count + 1 + 3 = omega (arith, whole-length) in ap (λ n. drop n s) e ∙ sym (drop-drop 3 (count + 1) s)
 
     form-is : (size-form s && starts mark (drop (size-length s) s)) ≡ (eqb (length (front-digits 3 (drop (count + 1) s))) 3 && starts mark (drop 3 (drop (count + 1) s)))
     unfolding size-form
     form-is = rw (le-leb 1 (length (whole s)) (whole-plain .0), whole-plain .1, pointed, part-is, mark-is)
+
+    found-is : S.Found (size s) (at + size-length s + 1) ≡ S.Found (value * 1000 + number (front-digits 3 (drop (count + 1) s))) (at + count + 5)
+    unfolding size size-length
+    found-is = ap₂ S.Found (ap₂ (λ x y. x * 1000 + number y) number-is part-is) (omega (arith, whole-length))
 
     pub size-is : size-answer s at mark ≡ from-part (part-answer (drop (count + 1) s) mark) value (at + count + 5)
     unfolding size-answer part-answer
@@ -150,13 +154,9 @@ module _ {s : List ℕ} {k count value : ℕ} (f : Front s k count value) (l : l
         ap (λ b. cond b (S.Found (size s) (at + size-length s + 1)) S.Malformed) form-is
         ∙ go (eqb (length (front-digits 3 (drop (count + 1) s))) 3 && starts mark (drop 3 (drop (count + 1) s)))
       where
-        found : S.Found (size s) (at + size-length s + 1) ≡ S.Found (value * 1000 + number (front-digits 3 (drop (count + 1) s))) (at + count + 5)
-        unfolding size size-length
-        found = ap₂ S.Found (ap₂ (λ x y. x * 1000 + number y) number-is part-is) (omega (arith, whole-length))
-
         go : (b : Bool) → cond b (S.Found (size s) (at + size-length s + 1)) S.Malformed
             ≡ from-part (cond b (P.Found (number (front-digits 3 (drop (count + 1) s)))) P.Malformed) value (at + count + 5)
-        go true = found
+        go true = found-is
         go false = refl
 
 -- an end: the sign has been read, and what follows it
@@ -171,31 +171,31 @@ behind-end : (t : List ℕ) → drop (end-length t) t ≡ drop (size-length (uns
 unfolding end-length unsigned
 behind-end t = sym (drop-drop (size-length (drop (sign-length t) t)) (sign-length t) t)
 
+end-long : (t : List ℕ) (mark : ℕ) → size-form (unsigned t) ≡ true → starts mark (drop (end-length t) t) ≡ true → 6 ≤ length t
+unfolding end-length size-length
+end-long t mark e f = omega (arith, leb-true 1 (length (whole (unsigned t))) (form-parts (unsigned t) e .0), starts-inside mark (end-length t) t f)
+
 pub end-short : (t : List ℕ) (at mark : ℕ) → length t < 6 → E.Malformed ≡ end-answer t at mark
 unfolding end-answer end-form
 end-short t at mark h = go (size-form (unsigned t)) (not (starts minus t && eqb (size (unsigned t)) 0)) (starts mark (drop (end-length t) t)) refl refl
   where
-    none : size-form (unsigned t) ≡ true → starts mark (drop (end-length t) t) ≡ true → ⊥
-    unfolding end-length size-length
-    none e f = omega (arith, leb-true 1 (length (whole (unsigned t))) (form-parts (unsigned t) e .0), starts-inside mark (end-length t) t f)
-
     go : (f g k : Bool) → size-form (unsigned t) ≡ f → starts mark (drop (end-length t) t) ≡ k
         → E.Malformed ≡ cond ((f && g) && k) (E.Found (record { minus = starts minus t; size = size (unsigned t); next = at + end-length t + 1 })) E.Malformed
-    go true true true p q = absurd (none p q)
+    go true true true p q = absurd (omega (arith, end-long t mark p q))
     go true true false p q = refl
     go true false k p q = refl
     go false g k p q = refl
 
 module _ (t : List ℕ) (at start mark : ℕ) (m : Bool) (em : m ≡ starts minus t) (es : start ≡ at + cond m 1 0) where
+  next-is : at + end-length t + 1 ≡ start + size-length (unsigned t) + 1
+  unfolding end-length sign-length
+  next-is = rw (← em) (omega arith)
+
   end-is : end-answer t at mark
       ≡ cond ((size-form (unsigned t) && not (m && eqb (size (unsigned t)) 0)) && starts mark (drop (size-length (unsigned t)) (unsigned t)))
       (E.Found (record { minus = m; size = size (unsigned t); next = start + size-length (unsigned t) + 1 })) E.Malformed
   unfolding end-answer end-form
   end-is = rw (behind-end t, next-is, ← em)
-    where
-      next-is : at + end-length t + 1 ≡ start + size-length (unsigned t) + 1
-      unfolding end-length sign-length
-      next-is = rw (← em) (omega arith)
 
   pub end-found : (s n : ℕ) → S.Found s n ≡ size-answer (unsigned t) start mark → end-of m s n ≡ end-answer t at mark
   unfolding size-answer end-of
@@ -225,3 +225,7 @@ module _ (t : List ℕ) (at start mark : ℕ) (m : Bool) (em : m ≡ starts minu
       go true false true f = refl
       go true false false f = refl
       go false k g f = refl
+
+-- the three digits behind the point, in the text and in what is left of it
+pub part-here : (text : List ℕ) (at count mark : ℕ) → part-answer (drop (at + count + 1) text) mark ≡ part-answer (drop (count + 1) (drop at text)) mark
+part-here text at count mark = ap (λ l. part-answer l mark) (ap (λ n. drop n text) (add-assoc at count 1) ∙ sym (drop-drop (count + 1) at text))

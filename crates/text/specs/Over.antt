@@ -88,22 +88,6 @@ wrote-then {t} {u} {d} {l₁} {l₂} {at} {i} {j} h a b = record {
 pub wrote-as : {t u d l : List ℕ} {at i : ℕ} → t ≡ u → Wrote t at d i l → Wrote u at d i l
 wrote-as e a = rw e at a
 
--- What a writer of a front does: t over d makes l, and n is its length.
-pub record Filled (t d : List ℕ) (n : ℕ) (l : List ℕ) : Type 0 where
-  pub length-is : n ≡ length t
-  pub buffer-is : l ≡ over t d
-
-pub wrote-front : {t d l : List ℕ} {n : ℕ} → Wrote t 0 d n l → Filled t d n l
-wrote-front {t} {d} w = record { length-is = w .next-is ∙ zero-add (length t); buffer-is = w .buffer-is ∙ put-front t d }
-
-pub filled-wrote : {t d l : List ℕ} {n : ℕ} → Filled t d n l → Wrote t 0 d n l
-filled-wrote {t} {d} f = record { next-is = f .length-is ∙ sym (zero-add (length t)); buffer-is = f .buffer-is ∙ sym (put-front t d) }
-
--- the part `&mut d[at..]` was lent, and its front was filled
-pub lent-wrote : {t d l : List ℕ} {n : ℕ} (at k : ℕ) → k ≡ length d - at → Filled t (take k (drop at d)) n l
-    → Wrote t at d (at + n) (take at d ++ (l ++ drop k (drop at d)))
-lent-wrote {t} {d} {l} at k e f = record { next-is = ap (λ m. at + m) (f .length-is); buffer-is = put-lent t d l at k e (f .buffer-is) }
-
 -- digits from the last to the first
 
 pub over-none : (k n : ℕ) (d : List ℕ) → k ≤ 0 → over (digits k n) d ≡ d

@@ -34,8 +34,8 @@ signed-size true zero = refl
 signed-size true (suc n) = refl
 signed-size false n = refl
 
-pub outside-signed : (m : Bool) (n : ℕ) → outside (signed m n) ≡ ltb 2000000000 n
-outside-signed m n = outside-size (signed m n) ∙ ap (ltb 2000000000) (signed-size m n)
+pub outside-signed : (m : Bool) (n : ℕ) → outside (signed m n) ≡ outside (pos n)
+outside-signed m n = outside-size (signed m n) ∙ ap (ltb 2000000000) (signed-size m n) ∙ sym (outside-size (pos n))
 
 pub range-ends : (a : Interval) → beyond-range a ≡ false → (outside (a .lower) ≡ false) × (outside (a .upper) ≡ false)
 unfolding beyond-range

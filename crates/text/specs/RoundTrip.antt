@@ -93,9 +93,10 @@ read-1-writes t = (λ e w. let z : _≡_ {A = Bool} true false = sym (form-iff t
     go false e n = refl
 
 pub read-2-writes : (t : List ℕ) → (read t ≡ refusal 2) ↔ ((a : Interval) × Writes t a × (beyond-range a ≡ true))
-read-2-writes t =
-    (λ e. let p = read-2-iff t .0 e in (value-of t, (value-short t (p .0), form-text t (p .0)), p .1),
-    λ w. rw (w .1 .1) (read-2-iff (text (w .0)) .1 (text-form (w .0) (w .1 .0), rw (text-value (w .0) (w .1 .0)) (w .2))))
+read-2-writes t = (
+  λ e. let p = read-2-iff t .0 e in (value-of t, (value-short t (p .0), form-text t (p .0)), p .1),
+  λ w. rw (w .1 .1) (read-2-iff (text (w .0)) .1 (text-form (w .0) (w .1 .0), rw (text-value (w .0) (w .1 .0)) (w .2))),
+)
 
 -- writing: each refusal exactly if its cause holds; then the buffer is as it was, and else its front reads back as the pair
 
@@ -118,9 +119,10 @@ module _ (a : Interval) (d : List ℕ) where
 
   pub write-3-iff : (write a d .answer ≡ refusal-told 3) ↔ ((beyond-range a ≡ false) × (length d < length (text a)))
   unfolding picked
-  write-3-iff =
-      (λ e. let p = go (beyond-range a) (leb (length (text a)) (length d)) (ap (λ w. w .answer) (sym (write-is a d)) ∙ e) in (p .0, leb-false _ _ (p .1)),
-      λ w. rw (write-is a d, w .0, lt-leb (length (text a)) (length d) (w .1)))
+  write-3-iff = (
+    λ e. let p = go (beyond-range a) (leb (length (text a)) (length d)) (ap (λ w. w .answer) (sym (write-is a d)) ∙ e) in (p .0, leb-false _ _ (p .1)),
+    λ w. rw (write-is a d, w .0, lt-leb (length (text a)) (length d) (w .1)),
+  )
     where
       go : (r f : Bool) → picked r f a d .answer ≡ refusal-told 3 → (r ≡ false) × (f ≡ false)
       go true f c = let z : _≡_ {A = ℕ} 2 3 = cc in absurd (omega arith)

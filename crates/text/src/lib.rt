@@ -3,7 +3,6 @@ use directed::Answer;
 use directed::Cause;
 use directed::Interval;
 use end::EndRead;
-
 ghost use mathlib.Core.Path.{_≡_};
 ghost use mathlib.Core.Bool.{false, cond};
 ghost use mathlib.Core.List.{_∷_};
@@ -95,14 +94,13 @@ fn has_room(lower: i32, upper: i32, room: usize) -> bool
     end::end_length(lower) + end::end_length(upper) + 3 <= room
 }
 
-// A mark and an end behind it from `at` on, and the place behind them. The rest of the buffer is lent to the writer of the end.
+// A mark and an end behind it from `at` on, and the place behind them.
 fn put_marked(mark: u8, e: i32, at: usize, buffer: &mut [u8]) -> usize
     requires { ⌜ (outside e ≡ false) × (at + length (mark ∷ end-text e) ≤ length (now buffer)) ⌝ }
     ensures { λ r. ⌜ Wrote (mark ∷ end-text e) at (now (buffer .entry)) r (now (buffer .exit)) ⌝ }
 {
-    buffer[at] = mark;
-    let start = at + 1;
-    start + end::put_end(e, &mut buffer[start..])
+    let start = digits::put_byte(mark, at, buffer);
+    end::put_end(e, start, buffer)
 }
 
 fn put_interval(lower: i32, upper: i32, buffer: &mut [u8]) -> usize
@@ -111,8 +109,7 @@ fn put_interval(lower: i32, upper: i32, buffer: &mut [u8]) -> usize
 {
     let comma = put_marked(b'[', lower, 0, buffer);
     let closing = put_marked(b',', upper, comma, buffer);
-    buffer[closing] = b']';
-    closing + 1
+    digits::put_byte(b']', closing, buffer)
 }
 
 // The text of an interval over the front of a buffer: refused with 2 if an end is beyond the range, with 3 if the buffer is too short.

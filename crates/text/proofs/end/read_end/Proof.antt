@@ -1,55 +1,73 @@
+-- `end::read_end` meets its contract: the sign, and what follows it. Assumes nothing.
+use Prim.Native.Nat.{_+_, _≤_, _<_}
+use Rattle.text.proofs.Ends.{unsigned-is, end-short, end-found, end-malformed}
+use Rattle.text.specs.DigitLaws.{starts-at}
+use Rattle.text.specs.Digits.{starts}
+use Rattle.text.specs.EndLaws.{sign-bit}
+use Rattle.text.specs.Parts.{size-answer}
+use Rattle.text.specs.Text.{minus}
 use borrow.Author.Needs.{needs}
+use lib.Dec.{eqb}
+use lib.ListN.{length, drop, getD, length-drop}
+use mathlib.Core.Bool.{cond}
+use mathlib.Core.Path.{_≡_, sym, ap, _∙_}
+use native.Mathlib.Omega.{arith}
 use Rattle.text.proofs.end.read_end.Statement.{statement}
 use Rattle.text.proofs.end.read_end.Tie as tie
-use Rattle.text.proofs.end.read_end.Reads as reads
-use Rattle.text.proofs.end.read_end.Lts as lts
-use Rattle.text.proofs.end.end_of.Reads as end-of-reads
-use Rattle.text.proofs.end.read_size.Reads as read-size-reads
-use Rattle.text.proofs.end.sign_length.Reads as sign-length-reads
 
--- src/end.rt:110:8
+sign : (c : tie.After-sign-length) → eqb (getD (c .before .before .before .before .args .text .now) (c .before .before .before .before .args .at) 0) minus ≡ starts minus (drop (c .before .before .before .before .args .at) (c .before .before .before .before .args .text .now))
+sign c =
+    let s = c .before .before .before .before in
+    let h : s .args .at < length (s .args .text .now) = omega (arith, c .before .before .if1 .left) in
+    sym (starts-at minus (s .args .at) (s .args .text .now) h)
+
+start : (c : tie.After-sign-length) → c .before .before .before .before .args .at + c .sign-length .result ≡ c .before .before .before .before .args .at + cond (eqb (getD (c .before .before .before .before .args .text .now) (c .before .before .before .before .args .at) 0) minus) 1 0
+start c = ap (λ n. c .before .before .before .before .args .at + n) (c .sign-length .ensures)
+
+inside : (c : tie.After-sign-length) → c .before .before .before .before .args .at + c .sign-length .result + 5 ≤ length (c .before .before .before .before .args .text .now)
+inside c = omega (arith, c .before .before .if1 .left, c .sign-length .ensures, sign-bit (eqb (getD (c .before .before .before .before .args .text .now) (c .before .before .before .before .args .at) 0) minus))
+
 sub-if1 : tie.Need-sub-if1
 sub-if1 c = search needs
 
--- src/end.rt:111:9
 returns : tie.Need-returns
-returns c = ?
+returns c = end-short _ _ _ (simp length-drop (omega (arith, c .if1 .taken)))
 
--- src/end.rt:113:17
 shared-slice-read-minus : tie.Need-shared-slice-read-minus
 shared-slice-read-minus c = search needs
 
--- src/end.rt:114:22
 sign-length-requires : tie.Need-sign-length-requires
 sign-length-requires c κs = search needs
 
--- src/end.rt:114:17
 add-start : tie.Need-add-start
-add-start c = ?
+add-start c = omega (arith, inside c)
 
--- src/end.rt:115:9
 read-size-requires : tie.Need-read-size-requires
-read-size-requires c κs = ?
+read-size-requires c κs = omega (arith, inside c)
 
--- src/end.rt:117:27
 enum-known-found : tie.Need-enum-known-found
 enum-known-found c = search needs
 
--- src/end.rt:117:43
 end-of-requires : tie.Need-end-of-requires
 end-of-requires c κs = search needs
 
--- src/end.rt:118:32
 enum-told : tie.Need-enum-told
 enum-told c = search needs
 
--- src/end.rt:106:1
 returns-2 : tie.Need-returns-2
-returns-2 c = ?
+returns-2 c =
+    let s = c .before .before .before .before .before .before .before .before .before in
+    let g = c .before .before .before .before .before in
+    c .end-of .ensures
+    ∙ end-found _ (s .args .at) (s .args .at + g .sign-length .result) _ _ (sign g) (start g) _ _
+    (sym (c .before .before .found .given .1) ∙ c .before .before .before .before .read-size .ensures ∙ ap (λ x. size-answer x (s .args .at + g .sign-length .result) (s .args .mark)) (unsigned-is (s .args .text .now) _ _ _ (sign g) (start g)))
 
--- src/end.rt:106:1
 returns-3 : tie.Need-returns-3
-returns-3 c = ?
+returns-3 c =
+    let s = c .before .before .before .before .before .before .before in
+    let g = c .before .before .before in
+    end-malformed _ (s .args .at) (s .args .at + g .sign-length .result) _ _ (sign g) (start g)
+    (sym (c .enum-told .given .1) ∙ c .before .before .read-size .ensures ∙ ap (λ x. size-answer x (s .args .at + g .sign-length .result) (s .args .mark)) (unsigned-is (s .args .text .now) _ _ _ (sign g) (start g)))
 
 pub read-end-spec : {M : Type 1} → statement M
 read-end-spec =

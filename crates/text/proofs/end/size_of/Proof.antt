@@ -19,7 +19,7 @@ cast-result : tie.Need-cast-result
 cast-result c = rw (plain (c .before .fits .e), plain (below c .small)) (below c .sign, below c .fits)
 
 cast-result-2 : tie.Need-cast-result-2
-cast-result-2 c = rw (plain (c .before .fits .e)) (unturned _ (inside-size _ (c .before .pre)) (rw (plain (c .before .fits .e)) at (c .if1 .left)))
+cast-result-2 c = rw (plain (c .before .fits .e)) (unturned (c .before .args .e) (inside-size (c .before .args .e) (c .before .pre)) (rw (plain (c .before .fits .e)) at (c .if1 .left)))
 
 returns : tie.Need-returns
 returns c = rw (plain (c .before .fits .e), plain (below c .small)) (below c .size)
