@@ -1,13 +1,12 @@
 -- Steps of the reader of an end: three digits, the thousandths, and the sign. Assumes nothing.
 use mathlib.Core.Path.{_≡_, refl, sym, ap, ap₂, _∙_}
-use mathlib.Core.Bool.{Bool, true, false, cond, not, _&&_, false≢true, true≢false}
-use mathlib.Core.List.{List, [], _∷_, _++_}
+use mathlib.Core.Bool.{Bool, true, false, cond, not, _&&_}
+use mathlib.Core.List.{List, _∷_}
 use Prim.Native.Nat.{ℕ, suc, _+_, _-_, _*_, _≤_, _<_}
 use native.Mathlib.Nat.{add-zero, add-assoc}
-use native.Mathlib.Numerals.{add-one}
 use native.Mathlib.Omega.{arith}
-use lib.Dec.{leb, eqb}
-use lib.ListN.{length, take, drop, getD, length-append, length-drop}
+use lib.Dec.{eqb}
+use lib.ListN.{length, take, drop, getD}
 use lib.Seq.{drop-cons, drop-drop, getD-append-add, length-take-le}
 use borrow.Author.Tests.{eq-eqb, ne-eqb, leb-true, le-leb}
 use Rattle.text.specs.declared.end.PartRead.{PartRead}
@@ -20,7 +19,7 @@ use Rattle.text.specs.Text.{minus, point}
 use Rattle.text.specs.Form.{whole, behind-whole, thousandths, size-form, size, size-length, sign-length, unsigned, end-form, end-length}
 use Rattle.text.specs.Parts.{part-answer, size-answer, end-answer, end-of}
 use Rattle.text.specs.DigitLaws.{digit-bounds, front-all, front-length, plain-width, width-plain, width-le, starts-inside, starts-at}
-use Rattle.text.specs.EndLaws.{both, starts-cons, form-parts, form-three, form-split}
+use Rattle.text.specs.EndLaws.{both, form-parts, form-split}
 use Rattle.text.specs.Front.{Front, passed-whole, front-whole}
 
 -- three digits and a mark

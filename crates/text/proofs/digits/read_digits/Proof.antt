@@ -1,13 +1,12 @@
 -- `digits::read_digits` meets its contract. The invariant: the bytes passed are digits, and value is their number. Assumes nothing.
-use Prim.Native.Nat.{ℕ, _+_, _-_, _≤_, _<_}
+use Prim.Native.Nat.{_+_, _-_, _≤_}
 use Rattle.text.specs.DigitLaws.{digit-bounds}
 use Rattle.text.specs.Digits.{is-digit}
-use Rattle.text.specs.Front.{Passed, Front, passed-none, passed-next}
+use Rattle.text.specs.Front.{Passed, passed-none, passed-next}
 use borrow.Author.Needs.{needs}
 use borrow.Author.Tests.{not-true, not-false}
-use lib.ListN.{length, drop, length-drop, getD}
+use lib.ListN.{drop, length-drop, getD}
 use lib.Seq.{getD-drop}
-use mathlib.Core.Bool.{true, false}
 use mathlib.Core.Path.{_≡_, sym, ap, _∙_}
 use native.Mathlib.Omega.{arith}
 use Rattle.text.proofs.digits.read_digits.Statement.{statement}
