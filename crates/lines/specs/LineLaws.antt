@@ -40,9 +40,9 @@ split (b ∷ s) t = let i = split s t in go (eqb b 10) refl (ended-lines s) (ope
   where
     go : (x : Bool) → eqb b 10 ≡ x → (E : List (List ℕ)) (o : List ℕ) → ended-lines (s ++ t) ≡ E ++ ended-lines (o ++ t) → open-line (s ++ t) ≡ open-line (o ++ t)
         → (cond x ([] ∷ ended-lines (s ++ t)) (grow-ended b (ended-lines (s ++ t)))
-            ≡ cond x ([] ∷ E) (grow-ended b E) ++ ended-lines (cond x o (open-behind (b ∷ []) E o) ++ t))
+        ≡ cond x ([] ∷ E) (grow-ended b E) ++ ended-lines (cond x o (open-behind (b ∷ []) E o) ++ t))
         × (cond x (open-line (s ++ t)) (open-behind (b ∷ []) (ended-lines (s ++ t)) (open-line (s ++ t)))
-            ≡ open-line (cond x o (open-behind (b ∷ []) E o) ++ t))
+        ≡ open-line (cond x o (open-behind (b ∷ []) E o) ++ t))
     go true h E o e f = (ap (λ l. [] ∷ l) e, f)
     go false h [] o e f = (rw h (ap (grow-ended b) e), rw h (ap₂ (λ E o. open-behind (b ∷ []) E o) e f))
     go false h (l ∷ E) o e f = (ap (grow-ended b) e, ap (λ E. open-behind (b ∷ []) E (open-line (s ++ t))) e ∙ f)

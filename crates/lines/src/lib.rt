@@ -1,4 +1,4 @@
-// A line of the slip program: its answer, and the output line that says it.
+// The lines of the slip program: a line's answer, its output line (module output), and the stream of lines (module stream).
 ghost use mathlib.Core.Path.{_≡_};
 ghost use Prim.Native.Nat.{_≤_};
 ghost use lib.ListN.{length, drop};
@@ -7,10 +7,12 @@ ghost use Rattle.directed.specs.Equation.{equation};
 ghost use Rattle.text.specs.Answer.{read};
 ghost use Rattle.lines.specs.Fields.{fields, fields-behind};
 ghost use Rattle.lines.specs.Pairs.{Seen, Seen-last};
-ghost use Rattle.lines.specs.Line.{first-field, second-field, binary, with-pair, two, three, operate, operate-first, answer as answer-of};
+ghost use Rattle.lines.specs.Line.{first-field, second-field, binary, with-pair, two, three, operate-first, answer as answer-of};
+
 mod output;
 mod scan;
 pub mod stream;
+
 use directed::Answer;
 use directed::Cause;
 use directed::Interval;
@@ -35,6 +37,22 @@ enum Binary {
     Difference,
     Product,
     Quotient,
+}
+
+// What a quick look sees of a field: a pair, and where the field ends. A pair's text has no space in it: where one was read up to a space
+// or to the end, there its field ends, and needs no scan.
+enum PairSeen {
+    Found(Interval, usize),
+    Unsure,
+}
+
+// What `stream::feed` made of the bytes from a place on: how many lines are answered, the place behind them, how much of the buffer is
+// filled, and whether it was too full for a line that is there.
+pub struct Fed {
+    pub lines: u32,
+    pub at: usize,
+    pub filled: usize,
+    pub more: bool,
 }
 
 fn first_of(field: &[u8]) -> FirstField
@@ -78,15 +96,6 @@ fn second_of(field: &[u8]) -> SecondField
     SecondField::NoOperation
 }
 
-// What was made of the bytes from a place on: how many lines are answered, the place behind them, how much of the buffer is filled, and
-// whether it was too full for a line that is there.
-pub struct Fed {
-    pub lines: u32,
-    pub at: usize,
-    pub filled: usize,
-    pub more: bool,
-}
-
 fn calculate(operation: Binary, rounding: Rounding, a: Interval, b: Interval) -> Answer
     ensures { λ r. ⌜ outcome r ≡ binary operation rounding a b ⌝ }
 {
@@ -127,14 +136,7 @@ fn of_three(rounding: Rounding, first: &[u8], second: &[u8], third: &[u8]) -> An
     }
 }
 
-// What a quick look sees of a field: a pair, and where the field ends. A pair's text has no space in it: where one was read up to a space
-// or to the end, there its field ends, and needs no scan.
-enum PairSeen {
-    Found(Interval, usize),
-    Unsure,
-}
-
-// The field behind the one that ends at `end`. A pair's text has 13 bytes or more.
+// A look at the field behind the one that ends at `end`. A pair's text has 13 bytes or more.
 fn see_next(line: &[u8], end: usize) -> PairSeen
     ensures { λ r. ⌜ Seen (now (line .entry)) end r ⌝ }
 {
@@ -166,20 +168,21 @@ fn see_last(line: &[u8], end: usize) -> PairSeen
     }
 }
 
-// The fields behind the second, which ends at `end`.
+// The fields behind the second, which ends at `end`, for an operation on two intervals.
 fn two_fields(operation: Binary, rounding: Rounding, line: &[u8], end: usize) -> Answer
     requires { ⌜ end ≤ length (now line) ⌝ }
     ensures { λ r. ⌜ outcome r ≡ two (binary operation rounding) (fields-behind (now (line .entry)) end) ⌝ }
 {
     match see_next(line, end) {
         PairSeen::Found(a, next) => match see_last(line, next) {
-            PairSeen::Found(b, last) => calculate(operation, rounding, a, b),
-            PairSeen::Unsure => two_slowly(operation, rounding, line, end),
+            PairSeen::Found(b, _) => calculate(operation, rounding, a, b),
+            PairSeen::Unsure => two_by_scan(operation, rounding, line, end),
         },
-        PairSeen::Unsure => two_slowly(operation, rounding, line, end),
+        PairSeen::Unsure => two_by_scan(operation, rounding, line, end),
     }
 }
 
+// The same for the equation.
 fn three_fields(rounding: Rounding, line: &[u8], end: usize) -> Answer
     requires { ⌜ end ≤ length (now line) ⌝ }
     ensures { λ r. ⌜ outcome r ≡ three (equation rounding) (fields-behind (now (line .entry)) end) ⌝ }
@@ -187,17 +190,17 @@ fn three_fields(rounding: Rounding, line: &[u8], end: usize) -> Answer
     match see_next(line, end) {
         PairSeen::Found(a, next) => match see_next(line, next) {
             PairSeen::Found(c, later) => match see_last(line, later) {
-                PairSeen::Found(b, last) => arithmetic::equation(a, c, b, rounding),
-                PairSeen::Unsure => three_slowly(rounding, line, end),
+                PairSeen::Found(b, _) => arithmetic::equation(a, c, b, rounding),
+                PairSeen::Unsure => three_by_scan(rounding, line, end),
             },
-            PairSeen::Unsure => three_slowly(rounding, line, end),
+            PairSeen::Unsure => three_by_scan(rounding, line, end),
         },
-        PairSeen::Unsure => three_slowly(rounding, line, end),
+        PairSeen::Unsure => three_by_scan(rounding, line, end),
     }
 }
 
-// The fields behind the second, which ends at `end`: two of them.
-fn two_slowly(operation: Binary, rounding: Rounding, line: &[u8], end: usize) -> Answer
+// The fields are cut, whatever they hold: there must be two.
+fn two_by_scan(operation: Binary, rounding: Rounding, line: &[u8], end: usize) -> Answer
     requires { ⌜ end ≤ length (now line) ⌝ }
     ensures { λ r. ⌜ outcome r ≡ two (binary operation rounding) (fields-behind (now (line .entry)) end) ⌝ }
 {
@@ -214,11 +217,16 @@ fn two_slowly(operation: Binary, rounding: Rounding, line: &[u8], end: usize) ->
     if second_end != line.len() {
         return Answer::Refused(Cause::MalformedLine);
     }
-    of_two(operation, rounding, &line[first..first_end], &line[second..second_end])
+    of_two(
+        operation,
+        rounding,
+        &line[first..first_end],
+        &line[second..second_end],
+    )
 }
 
-// Three of them.
-fn three_slowly(rounding: Rounding, line: &[u8], end: usize) -> Answer
+// There must be three.
+fn three_by_scan(rounding: Rounding, line: &[u8], end: usize) -> Answer
     requires { ⌜ end ≤ length (now line) ⌝ }
     ensures { λ r. ⌜ outcome r ≡ three (equation rounding) (fields-behind (now (line .entry)) end) ⌝ }
 {
@@ -240,7 +248,12 @@ fn three_slowly(rounding: Rounding, line: &[u8], end: usize) -> Answer
     if third_end != line.len() {
         return Answer::Refused(Cause::MalformedLine);
     }
-    of_three(rounding, &line[first..first_end], &line[second..second_end], &line[third..third_end])
+    of_three(
+        rounding,
+        &line[first..first_end],
+        &line[second..second_end],
+        &line[third..third_end],
+    )
 }
 
 // The fields from the second on, which begins at `from`.

@@ -1,4 +1,4 @@
--- `three_fields` meets its contract: by the pairs that were seen, or slowly. Assumes nothing.
+-- `three_fields` meets its contract: by the pairs that were seen, or by a scan. Assumes nothing.
 use mathlib.Core.Path.{_∙_, subst}
 use borrow.Author.Needs.{needs}
 use Rattle.lines.specs.declared.PairSeen.{PairSeen}
@@ -31,20 +31,20 @@ equation-requires c κs = tt
 enum-told : tie.Need-enum-told
 enum-told c = search needs
 
-three-slowly-requires : tie.Need-three-slowly-requires
-three-slowly-requires c κs = search needs
+three-by-scan-requires : tie.Need-three-by-scan-requires
+three-by-scan-requires c κs = search needs
 
 enum-told-2 : tie.Need-enum-told-2
 enum-told-2 c = search needs
 
-three-slowly-requires-2 : tie.Need-three-slowly-requires-2
-three-slowly-requires-2 c κs = search needs
+three-by-scan-requires-2 : tie.Need-three-by-scan-requires-2
+three-by-scan-requires-2 c κs = search needs
 
 enum-told-3 : tie.Need-enum-told-3
 enum-told-3 c = search needs
 
-three-slowly-requires-3 : tie.Need-three-slowly-requires-3
-three-slowly-requires-3 c κs = search needs
+three-by-scan-requires-3 : tie.Need-three-by-scan-requires-3
+three-by-scan-requires-3 c κs = search needs
 
 returns : tie.Need-returns
 returns c = let a = c .before .before .before .before .before .before .before .before .before .before .before .before .before .before .args in
@@ -58,13 +58,13 @@ returns c = let a = c .before .before .before .before .before .before .before .b
     (subst (λ (o : PairSeen). Seen-last l (q .0 .1 .0) o) (r .1) (c .before .before .before .before .see-last .ensures))
 
 returns-2 : tie.Need-returns-2
-returns-2 c = c .three-slowly .ensures
+returns-2 c = c .three-by-scan .ensures
 
 returns-3 : tie.Need-returns-3
-returns-3 c = c .three-slowly2 .ensures
+returns-3 c = c .three-by-scan2 .ensures
 
 returns-4 : tie.Need-returns-4
-returns-4 c = c .three-slowly3 .ensures
+returns-4 c = c .three-by-scan3 .ensures
 
 pub three-fields-spec : {M : Type 1} → statement M
 three-fields-spec =
@@ -78,11 +78,11 @@ three-fields-spec =
     enum-known-b
     equation-requires
     enum-told
-    three-slowly-requires
+    three-by-scan-requires
     enum-told-2
-    three-slowly-requires-2
+    three-by-scan-requires-2
     enum-told-3
-    three-slowly-requires-3
+    three-by-scan-requires-3
     returns
     returns-2
     returns-3

@@ -1,4 +1,4 @@
--- `two_fields` meets its contract: by the pairs that were seen, or slowly. Assumes nothing.
+-- `two_fields` meets its contract: by the pairs that were seen, or by a scan. Assumes nothing.
 use mathlib.Core.Path.{_∙_, subst}
 use borrow.Author.Needs.{needs}
 use Rattle.lines.specs.declared.PairSeen.{PairSeen}
@@ -25,14 +25,14 @@ calculate-requires c κs = tt
 enum-told : tie.Need-enum-told
 enum-told c = search needs
 
-two-slowly-requires : tie.Need-two-slowly-requires
-two-slowly-requires c κs = search needs
+two-by-scan-requires : tie.Need-two-by-scan-requires
+two-by-scan-requires c κs = search needs
 
 enum-told-2 : tie.Need-enum-told-2
 enum-told-2 c = search needs
 
-two-slowly-requires-2 : tie.Need-two-slowly-requires-2
-two-slowly-requires-2 c κs = search needs
+two-by-scan-requires-2 : tie.Need-two-by-scan-requires-2
+two-by-scan-requires-2 c κs = search needs
 
 returns : tie.Need-returns
 returns c = let a = c .before .before .before .before .before .before .before .before .before .before .args in
@@ -44,10 +44,10 @@ returns c = let a = c .before .before .before .before .before .before .before .b
     (subst (λ (o : PairSeen). Seen-last l (p .0 .1 .0) o) (q .1) (c .before .before .before .before .see-last .ensures))
 
 returns-2 : tie.Need-returns-2
-returns-2 c = c .two-slowly .ensures
+returns-2 c = c .two-by-scan .ensures
 
 returns-3 : tie.Need-returns-3
-returns-3 c = c .two-slowly2 .ensures
+returns-3 c = c .two-by-scan2 .ensures
 
 pub two-fields-spec : {M : Type 1} → statement M
 two-fields-spec =
@@ -59,9 +59,9 @@ two-fields-spec =
     enum-known-b
     calculate-requires
     enum-told
-    two-slowly-requires
+    two-by-scan-requires
     enum-told-2
-    two-slowly-requires-2
+    two-by-scan-requires-2
     returns
     returns-2
     returns-3)

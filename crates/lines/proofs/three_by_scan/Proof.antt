@@ -1,4 +1,4 @@
--- `three_slowly` meets its contract: the fields one by one, up to the end or to one too many. Assumes nothing.
+-- `three_by_scan` meets its contract: the fields one by one, up to the end or to one too many. Assumes nothing.
 use mathlib.Core.Path.{_≡_, refl, sym, ap, _∙_}
 use mathlib.Core.List.{List, _∷_}
 use Prim.Native.Nat.{ℕ, _+_, _-_, _<_}
@@ -10,8 +10,8 @@ use Rattle.directed.specs.Equation.{equation}
 use Rattle.lines.specs.Fields.{none-behind, field-behind, and-then, some-field-behind}
 use Rattle.lines.specs.Line.{three}
 use borrow.Author.Needs.{needs}
-use Rattle.lines.proofs.three_slowly.Statement.{statement}
-use Rattle.lines.proofs.three_slowly.Tie as tie
+use Rattle.lines.proofs.three_by_scan.Statement.{statement}
+use Rattle.lines.proofs.three_by_scan.Tie as tie
 
 returns : tie.Need-returns
 returns c = let a = c .before .before .args in
@@ -131,8 +131,8 @@ returns-5 c = let a = c .before .before .before .before .before .before .before 
     c .of-three .ensures
     ∙ sym (ap (three (equation (a .rounding))) (field-behind l (a .end) (f1 .result) h (f1 .ensures) ∙ and-then (field-behind l (f1 .result) (f2 .result) h1 (f2 .ensures) ∙ and-then (field-behind l (f2 .result) (f3 .result) h2 (f3 .ensures) ∙ and-then (none-behind l (f3 .result) (omega arith))))))
 
-pub three-slowly-spec : {M : Type 1} → statement M
-three-slowly-spec =
+pub three-by-scan-spec : {M : Type 1} → statement M
+three-by-scan-spec =
     tie.close
     (tie.spec
     returns

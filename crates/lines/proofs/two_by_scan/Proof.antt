@@ -1,4 +1,4 @@
--- `two_slowly` meets its contract: the fields one by one, up to the end or to one too many. Assumes nothing.
+-- `two_by_scan` meets its contract: the fields one by one, up to the end or to one too many. Assumes nothing.
 use mathlib.Core.Path.{_≡_, refl, sym, ap, _∙_}
 use mathlib.Core.List.{List, _∷_}
 use Prim.Native.Nat.{ℕ, _+_, _-_, _<_}
@@ -9,8 +9,8 @@ use Rattle.lines.specs.Scan.{found-within}
 use Rattle.lines.specs.Fields.{none-behind, field-behind, and-then, some-field-behind}
 use Rattle.lines.specs.Line.{binary, two}
 use borrow.Author.Needs.{needs}
-use Rattle.lines.proofs.two_slowly.Statement.{statement}
-use Rattle.lines.proofs.two_slowly.Tie as tie
+use Rattle.lines.proofs.two_by_scan.Statement.{statement}
+use Rattle.lines.proofs.two_by_scan.Tie as tie
 
 returns : tie.Need-returns
 returns c = let a = c .before .before .args in
@@ -89,8 +89,8 @@ returns-4 c = let a = c .before .before .before .before .before .before .before 
     c .of-two .ensures
     ∙ sym (ap (two (binary (a .operation) (a .rounding))) (field-behind l (a .end) (f1 .result) h (f1 .ensures) ∙ and-then (field-behind l (f1 .result) (f2 .result) h1 (f2 .ensures) ∙ and-then (none-behind l (f2 .result) (omega arith)))))
 
-pub two-slowly-spec : {M : Type 1} → statement M
-two-slowly-spec =
+pub two-by-scan-spec : {M : Type 1} → statement M
+two-by-scan-spec =
     tie.close
     (tie.spec
     returns
