@@ -11,3 +11,4 @@ pub mod LineLaws
 pub mod Calls
 pub mod Stream
 pub mod FeedLaws
+pub mod Worked

@@ -34,9 +34,9 @@ lines-are (b ∷ s) = go (eqb b 10) (ended-lines s) (open-line s) (lines-are s)
     go false (l ∷ E) o e = ap (grow b) e
 
 -- the ended lines stay as they are, and what follows goes on with the open line
-pub split : (s t : List ℕ) → (ended-lines (s ++ t) ≡ ended-lines s ++ ended-lines (open-line s ++ t)) × (open-line (s ++ t) ≡ open-line (open-line s ++ t))
-split [] t = (refl, refl)
-split (b ∷ s) t = let i = split s t in go (eqb b 10) refl (ended-lines s) (open-line s) (i .0) (i .1)
+pub ended-split : (s t : List ℕ) → (ended-lines (s ++ t) ≡ ended-lines s ++ ended-lines (open-line s ++ t)) × (open-line (s ++ t) ≡ open-line (open-line s ++ t))
+ended-split [] t = (refl, refl)
+ended-split (b ∷ s) t = let i = ended-split s t in go (eqb b 10) refl (ended-lines s) (open-line s) (i .0) (i .1)
   where
     go : (x : Bool) → eqb b 10 ≡ x → (E : List (List ℕ)) (o : List ℕ) → ended-lines (s ++ t) ≡ E ++ ended-lines (o ++ t) → open-line (s ++ t) ≡ open-line (o ++ t)
         → (cond x ([] ∷ ended-lines (s ++ t)) (grow-ended b (ended-lines (s ++ t)))
@@ -49,23 +49,23 @@ split (b ∷ s) t = let i = split s t in go (eqb b 10) refl (ended-lines s) (ope
 
 pub lines-split : (f : List ℕ → List (List ℕ)) (s t : List ℕ) → lines-with f (s ++ t) ≡ ended-lines s ++ lines-with f (open-line s ++ t)
 lines-split f s t =
-    let i = split s t in
+    let i = ended-split s t in
     ap₂ (λ E o. E ++ f o) (i .0) (i .1) ∙ append-assoc (ended-lines s) (ended-lines (open-line s ++ t)) (f (open-line (open-line s ++ t)))
 
 -- the open line has no byte 10
-pub open-free : (s : List ℕ) → absent 10 (open-line s) ≡ true
-open-free [] = refl
-open-free (b ∷ s) = go (eqb b 10) refl (ended-lines s) (open-free s)
+pub open-absent : (s : List ℕ) → absent 10 (open-line s) ≡ true
+open-absent [] = refl
+open-absent (b ∷ s) = go (eqb b 10) refl (ended-lines s) (open-absent s)
   where
     go : (x : Bool) → eqb b 10 ≡ x → (E : List (List ℕ)) → absent 10 (open-line s) ≡ true → absent 10 (cond x (open-line s) (open-behind (b ∷ []) E (open-line s))) ≡ true
     go true h E f = f
     go false h [] f = rw h f
     go false h (l ∷ E) f = f
 
-pub free-take : (n : ℕ) (p : List ℕ) → absent 10 p ≡ true → absent 10 (take n p) ≡ true
-free-take zero p f = refl
-free-take (suc n) [] f = refl
-free-take (suc n) (b ∷ p) f = go (eqb b 10) f (free-take n p)
+pub absent-take : (n : ℕ) (p : List ℕ) → absent 10 p ≡ true → absent 10 (take n p) ≡ true
+absent-take zero p f = refl
+absent-take (suc n) [] f = refl
+absent-take (suc n) (b ∷ p) f = go (eqb b 10) f (absent-take n p)
   where
     go : (x : Bool) → cond x false (absent 10 p) ≡ true → (absent 10 p ≡ true → absent 10 (take n p) ≡ true) → cond x false (absent 10 (take n p)) ≡ true
     go true f g = f
@@ -76,14 +76,14 @@ abbrev prepend : List ℕ → List (List ℕ) → List (List ℕ)
 prepend p [] = []
 prepend p (l ∷ ls) = (p ++ l) ∷ ls
 
-front : (p t : List ℕ) → absent 10 p ≡ true
+ended-front : (p t : List ℕ) → absent 10 p ≡ true
     → (ended-lines (p ++ t) ≡ prepend p (ended-lines t)) × (open-line (p ++ t) ≡ open-behind p (ended-lines t) (open-line t))
-front [] t f = go (ended-lines t)
+ended-front [] t f = go (ended-lines t)
   where
     go : (E : List (List ℕ)) → (E ≡ prepend [] E) × (open-line t ≡ open-behind [] E (open-line t))
     go [] = (refl, refl)
     go (l ∷ E) = (refl, refl)
-front (b ∷ p) t f = go (eqb b 10) f (ended-lines t) (front p t)
+ended-front (b ∷ p) t f = go (eqb b 10) f (ended-lines t) (ended-front p t)
   where
     go : (x : Bool) → cond x false (absent 10 p) ≡ true → (E : List (List ℕ))
         → (absent 10 p ≡ true → (ended-lines (p ++ t) ≡ prepend p E) × (open-line (p ++ t) ≡ open-behind p E (open-line t)))
@@ -95,10 +95,10 @@ front (b ∷ p) t f = go (eqb b 10) f (ended-lines t) (front p t)
 
 pub lines-front : (f : List ℕ → List (List ℕ)) (p t : List ℕ) → absent 10 p ≡ true
     → lines-with f (p ++ t) ≡ prepend p (ended-lines t) ++ f (open-behind p (ended-lines t) (open-line t))
-lines-front f p t h = let i = front p t h in ap₂ (λ E o. E ++ f o) (i .0) (i .1)
+lines-front f p t h = let i = ended-front p t h in ap₂ (λ E o. E ++ f o) (i .0) (i .1)
 
-pub lines-free : (f : List ℕ → List (List ℕ)) (p : List ℕ) → absent 10 p ≡ true → lines-with f (p ++ []) ≡ f p
-lines-free f p h = lines-front f p [] h ∙ ap f (append-nil p)
+pub lines-absent : (f : List ℕ → List (List ℕ)) (p : List ℕ) → absent 10 p ≡ true → lines-with f (p ++ []) ≡ f p
+lines-absent f p h = lines-front f p [] h ∙ ap f (append-nil p)
 
 -- 97 bytes of an open line are enough
 first-same : (k : ℕ) (x y : List ℕ) (ls : List (List ℕ)) → output-line (k + 1) x ≡ output-line (k + 1) y → answered k (x ∷ ls) ≡ answered k (y ∷ ls)
@@ -133,7 +133,7 @@ module _ (f : List ℕ → List (List ℕ)) (alike : Alike f) where
       go : Dec (length p < 97) → answered k (lines-with f (clip p ++ t)) ≡ answered k (lines-with f (p ++ t))
       go (yes q) = ap (λ l. answered k (lines-with f (l ++ t))) (take-all 97 p (omega arith))
       go (no q) =
-          ap (answered k) (lines-front f (clip p) t (free-take 97 p h))
+          ap (answered k) (lines-front f (clip p) t (absent-take 97 p h))
           ∙ clip-long k p (open-line t) (ended-lines t) (omega arith)
           ∙ ap (answered k) (sym (lines-front f p t h))
 

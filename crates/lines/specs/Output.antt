@@ -2,21 +2,20 @@
 use mathlib.Core.Path.{_≡_, refl}
 use mathlib.Core.Bool.{Bool, true, false, cond, _||_}
 use mathlib.Core.List.{List, [], _∷_, _++_}
-use Prim.Native.Nat.{ℕ, zero, suc, _+_, _^_, _≤_, _<_}
+use Prim.Native.Nat.{ℕ, zero, suc, _^_, _≤_, _<_}
 use native.Mathlib.Omega.{arith}
-use lib.Dec.{leb, ltb, lit≤}
+use lib.Dec.{leb, ltb}
 use lib.ListN.{length, length-append}
 use borrow.Author.Tests.{lt-ltb, lt-leb}
 use Rattle.directed.specs.declared.Interval.{Interval}
 use Rattle.directed.specs.declared.Rounding.{Rounding}
-use Rattle.directed.specs.declared.Rounding.the-variants.{Outward, Inward}
 use Rattle.directed.specs.Choice.{if_then_else_}
 use Rattle.directed.specs.Exact.{Sort, zero-free, holds-zero, sort}
 use Rattle.directed.specs.Thousandths.{beyond-range, exact}
-use Rattle.directed.specs.Answer.{Outcome, value, refusal, in-range, divided-by, of-two, sum, difference, product, quotient}
+use Rattle.directed.specs.Answer.{Outcome, value, refusal, in-range, divided-by, of-two}
 use Rattle.directed.specs.Equation.{equation, of-three}
 use Rattle.text.specs.Digits.{decimal, width, width-within}
-use Rattle.text.specs.DigitLaws.{decimal-length, width-le}
+use Rattle.text.specs.DigitLaws.{decimal-length}
 use Rattle.text.specs.Text.{text}
 use Rattle.text.specs.TextLaws.{text-longest}
 use Rattle.text.specs.Answer.{read}

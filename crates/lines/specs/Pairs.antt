@@ -5,14 +5,14 @@ use mathlib.Core.List.{List, [], _∷_, _++_}
 use Prim.Native.Nat.{ℕ, suc, _+_, _-_, _≤_, _<_}
 use native.Mathlib.Omega.{arith}
 use lib.Dec.{eqb}
-use lib.IntN.{ℤ, pos, natAbs}
+use lib.IntN.{ℤ, pos}
 use lib.Signed.{ltZ}
 use lib.ListN.{length, take, drop, drop-of-length-le}
 use lib.Seq.{drop-drop}
 use borrow.Author.Tests.{ne-eqb}
 use Rattle.directed.specs.declared.Interval.{Interval}
 use Rattle.directed.specs.Answer.{Outcome, value}
-use Rattle.text.specs.Digits.{is-digit, digits, decimal}
+use Rattle.text.specs.Digits.{digits, decimal}
 use Rattle.text.specs.DigitLaws.{All-digits, digit-bounds, digits-all, decimal-all}
 use Rattle.text.specs.Text.{text, end-text, sign-text, size-text}
 use Rattle.text.specs.Answer.{read}
@@ -47,9 +47,9 @@ absent-end e =
     absent-append (sign-text (ltZ e (pos 0))) _ (absent-sign (ltZ e (pos 0)))
     (absent-append (decimal _) _ (absent-digits (decimal _) (decimal-all _)) (absent-digits (digits 3 _) (digits-all 3 _)))
 
-pub no-space : (t : List ℕ) (a : Interval) → read t ≡ value a → absent 32 t ≡ true
+pub pair-no-space : (t : List ℕ) (a : Interval) → read t ≡ value a → absent 32 t ≡ true
 unfolding text
-no-space t a e =
+pair-no-space t a e =
     rw (text-reads-only t a e .0)
     (absent-append (end-text (a .lower)) _ (absent-end (a .lower)) (absent-append (end-text (a .upper)) _ (absent-end (a .upper)) refl))
 
@@ -62,14 +62,14 @@ position-zero x (b ∷ s) = go (eqb b x) refl (position-zero x s)
     go true e h = rw e
     go false e h = h
 
-found-zero : (x : ℕ) (s : List ℕ) (at e : ℕ) → e ≡ at + position x (drop at s) → position x (drop e s) ≡ 0
-found-zero x s at e h =
+position-found : (x : ℕ) (s : List ℕ) (at e : ℕ) → e ≡ at + position x (drop at s) → position x (drop e s) ≡ 0
+position-found x s at e h =
     ap (λ i. position x (drop i s)) h ∙ ap (position x) (sym (drop-drop (position x (drop at s)) at s)) ∙ position-zero x (drop at s)
 
 -- bytes without a space, up to where one is found or the end is
-up-to : (s : List ℕ) (from e : ℕ) → from ≤ e → e ≤ length s → position 32 (drop e s) ≡ 0 → absent 32 (take (e - from) (drop from s)) ≡ true
+field-up-to : (s : List ℕ) (from e : ℕ) → from ≤ e → e ≤ length s → position 32 (drop e s) ≡ 0 → absent 32 (take (e - from) (drop from s)) ≡ true
     → e ≡ from + position 32 (drop from s)
-up-to s from e h k z f =
+field-up-to s from e h k z f =
     let n : from + (e - from) ≡ e = omega arith in
     let b = position-block 32 s from (e - from) (omega arith) f in
     omega (arith, b, ap (λ i. position 32 (drop i s)) n)
@@ -87,10 +87,10 @@ pub data Seen-last (s : List ℕ) (end : ℕ) : PairSeen → Type 0 where
 module _ (s : List ℕ) (end e : ℕ) (a : Interval) (h : end < length s) (k : end + 1 ≤ e) (w : e ≤ length s)
     (r : read (take (e - (end + 1)) (drop (end + 1) s)) ≡ value a) where
   seen-at : position 32 (drop e s) ≡ 0 → fields-behind s end ≡ take (e - (end + 1)) (drop (end + 1) s) ∷ fields-behind s e
-  seen-at z = field-behind s end e h (up-to s (end + 1) e k w z (no-space _ a r))
+  seen-at z = field-behind s end e h (field-up-to s (end + 1) e k w z (pair-no-space _ a r))
 
   pub seen-to-space : (at : ℕ) → e ≡ at + position 32 (drop at s) → Seen s end (Found a e)
-  seen-to-space at f = found _ r (seen-at (found-zero 32 s at e f)) w
+  seen-to-space at f = found _ r (seen-at (position-found 32 s at e f)) w
 
   pub seen-to-end : e ≡ length s → Seen-last s end (Found a e)
   seen-to-end f =

@@ -1,5 +1,5 @@
 -- `answer` meets its contract: its length, then its first field, then the others. Assumes nothing.
-use mathlib.Core.Path.{_≡_, refl, sym, ap, ap₂, _∙_}
+use mathlib.Core.Path.{_≡_, sym, ap, ap₂, _∙_}
 use mathlib.Core.List.{List, [], _∷_}
 use Prim.Native.Nat.{ℕ, _+_, _-_, _<_}
 use native.Mathlib.Omega.{arith}
@@ -8,7 +8,6 @@ use lib.Seq.{length-take-le}
 use borrow.Author.Tests.{lt-ltb, le-ltb}
 use Rattle.directed.specs.declared.Rounding.{Rounding}
 use Rattle.directed.specs.Answer.{refusal}
-use Rattle.lines.specs.declared.FirstField.{FirstField}
 use Rattle.lines.specs.declared.FirstField.the-variants.{Rounds, NoRounding}
 use Rattle.lines.specs.Scan.{found-within}
 use Rattle.lines.specs.Fields.{fields, field-at, none-behind, some-behind, some-field, and-then}

@@ -1,6 +1,5 @@
 -- `see_last` meets its contract: a pair that is read up to the end is a last field. Assumes nothing.
-use mathlib.Core.Path.{_≡_, sym, ap, _∙_}
-use Prim.Native.Nat.{_+_, _-_, _≤_}
+use mathlib.Core.Path.{sym, ap, _∙_}
 use native.Mathlib.Omega.{arith}
 use lib.ListN.{length}
 use Rattle.directed.specs.Answer.{outcome}

@@ -1,11 +1,10 @@
 -- `output::put_body` meets its contract, by the cases of the answer. Assumes nothing.
-use mathlib.Core.Path.{_≡_, sym, ap, subst}
-use mathlib.Core.Bool.{false}
+use mathlib.Core.Path.{sym, ap, subst}
 use native.Mathlib.Omega.{arith}
 use Rattle.directed.specs.declared.Answer.{Answer}
-use Rattle.directed.specs.Answer.{Outcome, value, refusal, outcome}
+use Rattle.directed.specs.Answer.{outcome}
 use Rattle.text.specs.Over.{wrote-as}
-use Rattle.lines.specs.Output.{body, Printable, printed, printable-value}
+use Rattle.lines.specs.Output.{body, Printable, printable-value}
 use borrow.Author.Needs.{needs}
 use Rattle.lines.proofs.output.put_body.Statement.{statement}
 use Rattle.lines.proofs.output.put_body.Tie as tie
