@@ -21,7 +21,7 @@ use Rattle.lines.specs.declared.PairSeen.{PairSeen}
 use Rattle.lines.specs.declared.PairSeen.the-variants.{Found, Unsure}
 use Rattle.lines.specs.Scan.{absent, position, position-block}
 use Rattle.lines.specs.Line.{two, three}
-use Rattle.lines.specs.Fields.{fields-behind, field-behind, none-behind, and-then}
+use Rattle.lines.specs.FieldLaws.{fields-behind, field-behind, none-behind, and-then}
 
 -- no space in a text
 absent-append : (s t : List ℕ) → absent 32 s ≡ true → absent 32 t ≡ true → absent 32 (s ++ t) ≡ true

@@ -5,9 +5,11 @@ ghost use lib.ListN.{length, drop};
 ghost use Rattle.directed.specs.Answer.{outcome};
 ghost use Rattle.directed.specs.Equation.{equation};
 ghost use Rattle.text.specs.Answer.{read};
-ghost use Rattle.lines.specs.Fields.{fields, fields-behind};
+ghost use Rattle.lines.specs.Fields.{fields};
+ghost use Rattle.lines.specs.FieldLaws.{fields-behind};
 ghost use Rattle.lines.specs.Pairs.{Seen, Seen-last};
-ghost use Rattle.lines.specs.Line.{first-field, second-field, binary, with-pair, two, three, operate-first, answer as answer-of};
+ghost use Rattle.lines.specs.Line.{first-field, second-field, binary, with-pair, two, three, answer as answer-of};
+ghost use Rattle.lines.specs.AnswerLaws.{operate-first};
 
 mod output;
 mod scan;

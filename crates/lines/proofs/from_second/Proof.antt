@@ -6,8 +6,9 @@ use lib.ListN.{take, drop}
 use Rattle.lines.specs.declared.SecondField.{SecondField}
 use Rattle.lines.specs.declared.SecondField.the-variants.{Two, Equation, NoOperation}
 use Rattle.lines.specs.Scan.{found-within}
-use Rattle.lines.specs.Fields.{fields-behind, field-at}
-use Rattle.lines.specs.Line.{second-field, operate, operate-first}
+use Rattle.lines.specs.FieldLaws.{fields-behind, field-at}
+use Rattle.lines.specs.Line.{second-field, operate}
+use Rattle.lines.specs.AnswerLaws.{operate-first}
 use borrow.Author.Needs.{needs}
 use Rattle.lines.proofs.from_second.Statement.{statement}
 use Rattle.lines.proofs.from_second.Tie as tie

@@ -6,7 +6,8 @@ use lib.ListN.{length}
 use Rattle.directed.specs.Answer.{Outcome}
 use Rattle.text.specs.Over.{wrote-as}
 use Rattle.lines.specs.Buffer.{wrote-lent}
-use Rattle.lines.specs.Output.{with-number, output-line, Printable, answer-printable, output-short}
+use Rattle.lines.specs.Output.{with-number, output-line}
+use Rattle.lines.specs.OutputLaws.{Printable, answer-printable, output-short}
 use borrow.Author.Needs.{needs}
 use Rattle.lines.proofs.stream.answer_at.Statement.{statement}
 use Rattle.lines.proofs.stream.answer_at.Tie as tie
