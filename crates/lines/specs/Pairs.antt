@@ -96,11 +96,12 @@ module _ (s : List ℕ) (end e : ℕ) (a : Interval) (h : end < length s) (k : e
   seen-to-end f =
       last _ r (seen-at (ap (position 32) (drop-of-length-le s {i = e} (omega arith))) ∙ and-then (none-behind s e (omega arith)))
 
--- the operation on pairs that were seen
-module _ {s : List ℕ} {end e : ℕ} {a b : Interval} where
-  pub two-seen : {e₂ : ℕ} (f : Interval → Interval → Outcome) → Seen s end (Found a e) → Seen-last s e (Found b e₂) → f a b ≡ two f (fields-behind s end)
-  two-seen f (found t r is w) (last u q is₂) = sym (ap (two f) (is ∙ and-then is₂) ∙ rw (r, q))
+-- what the operation answers on pairs that were seen
+module _ {s : List ℕ} {end e : ℕ} {a b : Interval} {x : Outcome} where
+  pub two-seen : {e₂ : ℕ} (f : Interval → Interval → Outcome) → x ≡ f a b → Seen s end (Found a e) → Seen-last s e (Found b e₂)
+      → x ≡ two f (fields-behind s end)
+  two-seen f h (found t r is w) (last u q is₂) = h ∙ sym (ap (two f) (is ∙ and-then is₂) ∙ rw (r, q))
 
-  pub three-seen : {e₂ e₃ : ℕ} {c : Interval} (f : Interval → Interval → Interval → Outcome)
-      → Seen s end (Found a e) → Seen s e (Found c e₂) → Seen-last s e₂ (Found b e₃) → f a c b ≡ three f (fields-behind s end)
-  three-seen f (found t r is w) (found u q is₂ w₂) (last v p is₃) = sym (ap (three f) (is ∙ and-then (is₂ ∙ and-then is₃)) ∙ rw (r, q, p))
+  pub three-seen : {e₂ e₃ : ℕ} {c : Interval} (f : Interval → Interval → Interval → Outcome) → x ≡ f a c b
+      → Seen s end (Found a e) → Seen s e (Found c e₂) → Seen-last s e₂ (Found b e₃) → x ≡ three f (fields-behind s end)
+  three-seen f h (found t r is w) (found u q is₂ w₂) (last v p is₃) = h ∙ sym (ap (three f) (is ∙ and-then (is₂ ∙ and-then is₃)) ∙ rw (r, q, p))

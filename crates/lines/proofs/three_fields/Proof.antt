@@ -1,5 +1,5 @@
 -- `three_fields` meets its contract: by the pairs that were seen, or by a scan. Assumes nothing.
-use mathlib.Core.Path.{_∙_, subst}
+use mathlib.Core.Path.{subst}
 use borrow.Author.Needs.{needs}
 use Rattle.lines.specs.declared.PairSeen.{PairSeen}
 use Rattle.directed.specs.Equation.{equation}
@@ -52,8 +52,8 @@ returns c = let a = c .before .before .before .before .before .before .before .b
     let p = c .before .before .before .before .before .before .before .before .before .before .a .given in
     let q = c .before .before .before .before .before .before .c .given in
     let r = c .before .before .b .given in
-    c .equation .ensures
-    ∙ three-seen (equation (a .rounding)) (subst (λ (o : PairSeen). Seen l (a .end) o) (p .1) (c .before .before .before .before .before .before .before .before .before .before .before .before .see-next .ensures))
+    three-seen (equation (a .rounding)) (c .equation .ensures)
+    (subst (λ (o : PairSeen). Seen l (a .end) o) (p .1) (c .before .before .before .before .before .before .before .before .before .before .before .before .see-next .ensures))
     (subst (λ (o : PairSeen). Seen l (p .0 .1 .0) o) (q .1) (c .before .before .before .before .before .before .before .before .see-next2 .ensures))
     (subst (λ (o : PairSeen). Seen-last l (q .0 .1 .0) o) (r .1) (c .before .before .before .before .see-last .ensures))
 

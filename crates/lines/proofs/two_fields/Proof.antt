@@ -1,5 +1,5 @@
 -- `two_fields` meets its contract: by the pairs that were seen, or by a scan. Assumes nothing.
-use mathlib.Core.Path.{_∙_, subst}
+use mathlib.Core.Path.{subst}
 use borrow.Author.Needs.{needs}
 use Rattle.lines.specs.declared.PairSeen.{PairSeen}
 use Rattle.lines.specs.Line.{binary}
@@ -39,8 +39,8 @@ returns c = let a = c .before .before .before .before .before .before .before .b
     let l = a .line .now in
     let p = c .before .before .before .before .before .before .a .given in
     let q = c .before .before .b .given in
-    c .calculate .ensures
-    ∙ two-seen (binary (a .operation) (a .rounding)) (subst (λ (o : PairSeen). Seen l (a .end) o) (p .1) (c .before .before .before .before .before .before .before .before .see-next .ensures))
+    two-seen (binary (a .operation) (a .rounding)) (c .calculate .ensures)
+    (subst (λ (o : PairSeen). Seen l (a .end) o) (p .1) (c .before .before .before .before .before .before .before .before .see-next .ensures))
     (subst (λ (o : PairSeen). Seen-last l (p .0 .1 .0) o) (q .1) (c .before .before .before .before .see-last .ensures))
 
 returns-2 : tie.Need-returns-2
