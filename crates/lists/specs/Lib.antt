@@ -5,3 +5,5 @@ pub mod Causes
 pub mod Reached
 pub mod Limits
 pub mod Walk
+pub mod Ways
+pub mod Refusals
