@@ -7,7 +7,7 @@ use Rattle.directed.specs.declared.Interval.{Interval}
 use Rattle.directed.specs.declared.Rounding.{Rounding}
 use Rattle.directed.specs.declared.Rounding.the-variants.{Outward, Inward}
 use Rattle.directed.specs.Choice.{if_then_else_}
-use Rattle.directed.specs.Fraction.{Fraction, thousandths}
+use Rattle.directed.specs.Fraction.{Fraction, _/1000}
 use Rattle.directed.specs.Exact.{Exact, ends, Sign, ⁺, ⁻}
 
 -- "A pair of thousandths is here two whole numbers of thousandths, also beyond the range."
@@ -21,7 +21,7 @@ a at ⁺ = a .upper
 
 -- "with an end e read as the fraction e over 1000"
 abbrev pub exact : Interval → Exact
-exact a = ends (thousandths (a .lower)) (thousandths (a .upper))
+exact a = ends (a .lower /1000) (a .upper /1000)
 
 -- "An end is a signed whole number from −2,000,000,000 to 2,000,000,000"
 abbrev pub least : ℤ
@@ -67,12 +67,12 @@ meet a b = interval (larger (a .lower) (b .lower)) (smaller (a .upper) (b .upper
 
 -- "Outward rounding takes the lower end down to the nearest thousandth and the upper end up. Inward takes the lower end up and the upper end
 -- down. Down means towards minus infinity, also below zero."
-unfoldable pub down : Fraction → ℤ
-down x = floor (x .num *ℤ pos 1000) (pos (x .den))
+unfoldable pub round-down : Fraction → ℤ
+round-down x = floor (x .num *ℤ pos 1000) (pos (x .den))
 
-unfoldable pub up : Fraction → ℤ
-up x = ceiling (x .num *ℤ pos 1000) (pos (x .den))
+unfoldable pub round-up : Fraction → ℤ
+round-up x = ceiling (x .num *ℤ pos 1000) (pos (x .den))
 
 abbrev pub rounded : Rounding → Exact → Interval
-rounded Outward x = interval (down (x .lower)) (up (x .upper))
-rounded Inward x = interval (up (x .lower)) (down (x .upper))
+rounded Outward x = interval (round-down (x .lower)) (round-up (x .upper))
+rounded Inward x = interval (round-up (x .lower)) (round-down (x .upper))
