@@ -7,3 +7,5 @@ pub mod Limits
 pub mod Walk
 pub mod Ways
 pub mod Refusals
+pub mod ExactValue
+pub mod Containment
