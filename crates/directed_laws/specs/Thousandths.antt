@@ -4,7 +4,7 @@ use mathlib.Core.Path.{_≡_, refl, ap₂}
 use Prim.Native.Nat.{ℕ, _<_, _*_}
 use native.Mathlib.Omega.{arith}
 use lib.IntN.{ℤ, _+ℤ_, pos, _-ℤ_, negℤ, _*ℤ_}
-use lib.Signed.{ltZ, leZ, _<ℤ_}
+use lib.Signed.{_≤ℤ_, ltZ, leZ, _<ℤ_}
 use Rattle.integers.specs.Laws.{negℤ-anti, *ℤ-mono, *ℤ-strict}
 use Rattle.integers.specs.Locals.{lt-true, lt-false, le-true, true-lt, true-le, false-lt, false-le, le-false}
 use Rattle.integers.specs.Parts.{minus, is-diff, diffs, lin}
@@ -114,7 +114,7 @@ ltZ-negation x y = go (ltZ x y) refl
   where
     go : (t : Bool) → ltZ x y ≡ t → ltZ (negℤ y) (negℤ x) ≡ t
     go true e = let h : x <ℤ y = lt-true e in let k : negℤ y <ℤ negℤ x = omega (lin, minus x, minus y) in true-lt k
-    go false e = false-lt (negℤ-anti (lt-false e))
+    go false e = let h : y ≤ℤ x = lt-false e in false-lt (negℤ-anti {a = y} {b = x} h)
 
 outside-negation : (z : ℤ) → outside (negℤ z) ≡ outside z
 unfolding outside
