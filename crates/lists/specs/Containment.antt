@@ -47,22 +47,18 @@ toward-refl : (w : Rounding) (x : Exact) → Toward w x x
 toward-refl Outward x = ⊑-refl x
 toward-refl Inward x = ⊑-refl x
 
-toward-trans : (w : Rounding) {x y z : Exact} → Toward w x y → Toward w y z → Toward w x z
-toward-trans Outward h k = ⊑-trans h k
-toward-trans Inward h k = ⊑-trans k h
-
-toward-rounded : (w : Rounding) (x : Exact) → Toward w x (exact (rounded w x))
-toward-rounded Outward x = rounded-tightest Outward x .contains
-toward-rounded Inward x = rounded-tightest Inward x .within
+toward-rounded : (w : Rounding) (x y : Exact) → Toward w x y → Toward w x (exact (rounded w y))
+toward-rounded Outward x y h = ⊑-trans h (rounded-tightest Outward y .contains)
+toward-rounded Inward x y h = ⊑-trans (rounded-tightest Inward y .within) h
 
 -- "Dual and opposite turn containment round."
-unary-isotone : (f : Unary) (w : Rounding) {x y : Exact} → Toward (under f w) x y → Toward w (exact-unary f x) (exact-unary f y)
-unary-isotone Negation Outward h = negation-isotone h
-unary-isotone Negation Inward h = negation-isotone h
-unary-isotone Opposite Outward h = opposite-antitone h
-unary-isotone Opposite Inward h = opposite-antitone h
-unary-isotone Dual Outward h = dual-antitone h
-unary-isotone Dual Inward h = dual-antitone h
+unary-isotone : (f : Unary) (w : Rounding) (x y : Exact) → Toward (under f w) x y → Toward w (exact-unary f x) (exact-unary f y)
+unary-isotone Negation Outward x y h = negation-isotone h
+unary-isotone Negation Inward x y h = negation-isotone h
+unary-isotone Opposite Outward x y h = opposite-antitone h
+unary-isotone Opposite Inward x y h = opposite-antitone h
+unary-isotone Dual Outward x y h = dual-antitone h
+unary-isotone Dual Inward x y h = dual-antitone h
 
 binary-⊑ : (g : Binary) {a b c d : Exact} → a ⊑ c → b ⊑ d → exact-binary g a b ⊑ exact-binary g c d
 binary-⊑ Sum h k = sum-isotone h k
@@ -71,9 +67,9 @@ binary-⊑ Product h k = product-isotone _ _ _ _ h k
 binary-⊑ Join h k = join-isotone h k
 binary-⊑ Meet h k = meet-isotone h k
 
-binary-isotone : (g : Binary) (w : Rounding) {a b c d : Exact} → Toward w a c → Toward w b d → Toward w (exact-binary g a b) (exact-binary g c d)
-binary-isotone g Outward h k = binary-⊑ g h k
-binary-isotone g Inward h k = binary-⊑ g h k
+binary-isotone : (g : Binary) (w : Rounding) (a b c d : Exact) → Toward w a c → Toward w b d → Toward w (exact-binary g a b) (exact-binary g c d)
+binary-isotone g Outward a b c d h k = binary-⊑ g h k
+binary-isotone g Inward a b c d h k = binary-⊑ g h k
 
 -- ---- a value came of values
 record Came (x : Result) (f : Interval → Result) (p : Interval) : Type 0 where
@@ -102,12 +98,14 @@ evaluated-toward w (constant k q) p e =
 evaluated-toward w (one k f a) p e =
     let c = came (evaluated (under f w) a) (λ x. at k (unary f x)) p e in
     let h : rounded w (exact-unary f (exact (c .from))) ≡ p = came-rounded k _ p (rw (unary-rounded w f (c .from)) at (c .gave)) in
-    rw (← h) (toward-trans w (unary-isotone f w (evaluated-toward (under f w) a (c .from) (c .got))) (toward-rounded w _))
+    rw (← h) (toward-rounded w _ _ (unary-isotone f w _ _ (evaluated-toward (under f w) a (c .from) (c .got))))
 evaluated-toward w (two k g a b) p e =
     let c = came (evaluated w a) (λ x. after (evaluated w b) λ y. at k (binary w g x y)) p e in
     let d = came (evaluated w b) (λ y. at k (binary w g (c .from) y)) p (c .gave) in
     let h : rounded w (exact-binary g (exact (c .from)) (exact (d .from))) ≡ p = came-rounded k _ p (rw (binary-rounded w g (c .from) (d .from)) at (d .gave)) in
-    rw (← h) (toward-trans w (binary-isotone g w (evaluated-toward w a (c .from) (c .got)) (evaluated-toward w b (d .from) (d .got))) (toward-rounded w _))
+    rw (← h)
+    (toward-rounded w _ _
+    (binary-isotone g w _ _ _ _ (evaluated-toward w a (c .from) (c .got)) (evaluated-toward w b (d .from) (d .got))))
 
 -- ---- for every list that is accepted in that way
 module _ (v steps : ℕ) (s : List ℕ) (p : Interval) where

@@ -68,10 +68,10 @@ module _ (a b : Exact) (h : (i : Sign) → Decimal (a ! i)) (k : (i : Sign) → 
   decimal-none ⁻ ⁺ ⁺ = record { exponent = 0; over = refl }
 
 decimal-⊠ : (a b : Exact) → ((i : Sign) → Decimal (a ! i)) → ((i : Sign) → Decimal (b ! i)) → (i : Sign) → Decimal ((a ⊠ b) ! i)
+unfolding product
 decimal-⊠ a b h k i = go (sort a) (sort b) i
   where
     go : (s r : Sort) (i : Sign) → Decimal (product s r a b ! i)
-    unfolding product
     go (zero-free s) (zero-free r) ⁻ = decimal-times a b h k (⁻ · r) (⁻ · s)
     go (zero-free s) (zero-free r) ⁺ = decimal-times a b h k (⁺ · r) (⁺ · s)
     go (zero-free d) holds-zero ⁻ = decimal-times a b h k (d · direction b) (⁻ · d)
