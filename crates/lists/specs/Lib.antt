@@ -9,3 +9,4 @@ pub mod Ways
 pub mod Refusals
 pub mod ExactValue
 pub mod Containment
+pub mod Exchange
