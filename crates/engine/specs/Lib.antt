@@ -1,0 +1,3 @@
+-- What the engine's own types stand for.
+pub mod Verdict
+pub mod Program

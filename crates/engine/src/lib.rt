@@ -1,0 +1,4 @@
+// Lists of steps: the engine.
+mod constant;
+mod judge;
+mod program;
