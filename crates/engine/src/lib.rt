@@ -1,4 +1,5 @@
 // Lists of steps: the engine.
 mod constant;
 mod judge;
+mod machine;
 mod program;

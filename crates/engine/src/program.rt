@@ -3,7 +3,7 @@ ghost use mathlib.Core.Path.{_≡_};
 ghost use Prim.Native.Nat.{_+_, _-_, _≤_, _<_};
 ghost use lib.ListN.{length, getD};
 ghost use Rattle.lists.specs.Steps.{takes, leaves, follows, constant-in};
-ghost use Rattle.engine.specs.Program.{code-of, empty, appended, opened, closed, turned, turning, added, Room};
+ghost use Rattle.engine.specs.Program.{code-of, empty, appended, opened, closed, turned, turning, added, no-constant, Room};
 use crate::constant;
 use directed::Interval;
 use lists::Binary;
@@ -112,5 +112,51 @@ impl Program {
             },
             false,
         )
+    }
+
+    fn add_one(self, op: Unary) -> Program
+        requires { ⌜ Room self × (1 ≤ self .waiting) ⌝ }
+        ensures { λ r. ⌜ code-of r ≡ added (Step.One op) no-constant (code-of self) ⌝ }
+    {
+        let instruction = Instruction {
+            step: Step::One(op),
+            constant: Interval::ZERO,
+        };
+        if is_turning(op) {
+            let turned = self.turn();
+            turned.append(instruction, true)
+        } else {
+            self.append(instruction, false)
+        }
+    }
+
+    fn add_two(self, op: Binary) -> Program
+        requires { ⌜ Room self × (1 ≤ self .waiting) ⌝ }
+        ensures { λ r. ⌜ code-of r ≡ added (Step.Two op) no-constant (code-of self) ⌝ }
+    {
+        let closed = self.close();
+        closed.append(
+            Instruction {
+                step: Step::Two(op),
+                constant: Interval::ZERO,
+            },
+            false,
+        )
+    }
+
+    // A step more, `rest` being the bytes behind its code.
+    pub fn add(self, step: Step, rest: &[u8]) -> Program
+        requires { ⌜ Room self × (follows step ≤ length (now rest)) × (takes step ≤ self .waiting) × (self .waiting - takes step + leaves step ≤ 16) ⌝ }
+        ensures { λ r. ⌜ code-of r ≡ added step (constant-in (now (rest .entry))) (code-of self) ⌝ }
+    {
+        match step {
+            Step::Constant => {
+                let constant = constant::constant_in(rest);
+                self.add_constant(constant)
+            }
+            Step::One(op) => self.add_one(op),
+            Step::Two(op) => self.add_two(op),
+            Step::Unknown => self,
+        }
     }
 }
