@@ -1,3 +1,4 @@
 -- Laws that several proofs cite.
 pub mod Tops
 pub mod Compiled
+pub mod Stage

@@ -1,5 +1,6 @@
 // Lists of steps: the engine.
 mod constant;
+mod decode;
 mod judge;
 mod machine;
 mod program;
