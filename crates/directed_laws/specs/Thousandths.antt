@@ -133,7 +133,7 @@ unfolding beyond-range
 dual-range a = or-comm (outside (a .upper)) (outside (a .lower))
 
 -- each end of a join or a meet is an end that was given
-or-false : (p q : Bool) → (p || q) ≡ false → (p ≡ false) × (q ≡ false)
+pub or-false : (p q : Bool) → (p || q) ≡ false → (p ≡ false) × (q ≡ false)
 or-false true q e = (cc, cc)
 or-false false q e = (cc, e)
 

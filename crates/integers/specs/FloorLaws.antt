@@ -1,13 +1,14 @@
 -- What follows of the roundings from their universal properties. Assumes nothing.
-use mathlib.Core.Path.{_≡_, refl, sym, ap, _∙_, subst}
-use mathlib.Core.Logic.{_↔_, _⊎_, ⊎-elim}
-use Prim.Native.Nat.{ℕ, zero, suc, _+_, _*_, _≤_, _<_}
+use mathlib.Core.Logic.{⊎-elim}
+use mathlib.Core.Path.{_≡_, sym, ap}
+use Prim.Native.Nat.{ℕ, _<_, _*_}
+use native.Mathlib.Nat.{mul-pos}
 use native.Mathlib.Omega.{arith}
-use lib.IntN.{ℤ, pos, negsuc, negℤ, _+ℤ_, _-ℤ_, _*ℤ_, negℤ-negℤ}
+use lib.IntN.{ℤ, _+ℤ_, pos, negℤ, _*ℤ_}
 use lib.Signed.{_≤ℤ_, _<ℤ_, ≤ℤ-refl}
-use Rattle.integers.specs.Parts.{up, dn, sum, minus, times, lin, diffs, is-diff}
-use Rattle.integers.specs.Laws.{≤ℤ-trans, ≤ℤ-antisym, ≤ℤ-or-<ℤ, *ℤ-mono}
-use Rattle.integers.specs.Floor.{floor, ceiling, floor-iff, floor-iff-neg, ceiling-iff, ceiling-iff-neg}
+use Rattle.integers.specs.Floor.{floor, ceiling, floor-iff, ceiling-iff}
+use Rattle.integers.specs.Laws.{negℤ-*ℤ, ≤ℤ-trans, ≤ℤ-antisym, ≤ℤ-or-<ℤ, *ℤ-mono, *ℤ-cancel-≤}
+use Rattle.integers.specs.Parts.{sum, is-diff, diffs, lin}
 
 module _ (d : ℤ) (z : pos 0 <ℤ d) where
   -- floor n d times d is at most n
@@ -58,3 +59,21 @@ module _ (d : ℤ) (z : pos 0 <ℤ d) where
               let t : ((ceiling n d +ℤ pos 1) *ℤ d) ≤ℤ (floor n d *ℤ d) = *ℤ-mono _ _ d (omega lin) s in
               let f : (x y : ℤ) → pos 0 <ℤ d → ((x +ℤ pos 1) *ℤ d) ≤ℤ y → (x *ℤ d) <ℤ y = λ x y. rw (is-diff x, is-diff y, is-diff d) (simp diffs (omega arith)) in
               f (ceiling n d) (floor n d *ℤ d) z t
+
+-- a common factor cancels
+module _ (n : ℤ) (d k : ℕ) (z : 0 < d) (y : 0 < k) where
+  regroup : (q : ℤ) → q *ℤ pos (d * k) ≡ (q *ℤ pos d) *ℤ pos k
+  regroup q = rw (is-diff q) (simp diffs (omega arith))
+
+  pub floor-scaled : floor (n *ℤ pos k) (pos (d * k)) ≡ floor n (pos d)
+  floor-scaled =
+      ≤ℤ-antisym
+      (floor-iff _ n (pos d) (omega lin) .1 (*ℤ-cancel-≤ _ _ (pos k) (omega lin) (rw (regroup (floor (n *ℤ pos k) (pos (d * k)))) at (floor-below (pos (d * k)) above (n *ℤ pos k)))))
+      (floor-iff _ (n *ℤ pos k) (pos (d * k)) above .1 (rw (regroup (floor n (pos d))) (*ℤ-mono _ _ (pos k) (omega lin) (floor-below (pos d) (omega lin) n))))
+    where
+      above : pos 0 <ℤ pos (d * k)
+      above = let h : 0 < d * k = mul-pos z y in omega lin
+
+pub ceiling-scaled : (n : ℤ) (d k : ℕ) → 0 < d → 0 < k → ceiling (n *ℤ pos k) (pos (d * k)) ≡ ceiling n (pos d)
+unfolding ceiling
+ceiling-scaled n d k z y = rw (← negℤ-*ℤ n (pos k)) (ap negℤ (floor-scaled (negℤ n) d k z y))

@@ -1,0 +1,30 @@
+-- The larger of the lower ends and the smaller of the upper ones. Assumes nothing.
+use borrow.Author.Needs.{needs}
+use mir.Syntax.{w64}
+use Rattle.integers.specs.Locals.{got}
+use Rattle.arithmetic.proofs.Shared.{Same, landed}
+use Rattle.arithmetic.proofs.round_meet.Statement.{statement}
+use Rattle.arithmetic.proofs.round_meet.Tie as tie
+
+back : (s : tie.Start) → Same (s .args .a .lower) × Same (s .args .a .upper) × Same (s .args .b .lower) × Same (s .args .b .upper)
+back s = (search needs, search needs, search needs, search needs)
+
+larger-requires : tie.Need-larger-requires
+larger-requires c κs = search needs
+
+smaller-requires : tie.Need-smaller-requires
+smaller-requires c κs = search needs
+
+in-range-requires : tie.Need-in-range-requires
+in-range-requires c κs = search needs
+
+returns : tie.Need-returns
+returns c =
+    let u = c .before in
+    let l = u .before .before .before in
+    let s = l .before .before .before in
+    let f = back s in
+    landed (c .in-range .ensures) (got w64 (l .larger .ok) (rw (f .0, f .2) at (l .larger .ensures))) (got w64 (u .smaller .ok) (rw (f .1, f .3) at (u .smaller .ensures)))
+
+pub round-meet-spec : {M : Type 1} → statement M
+round-meet-spec = tie.close (tie.spec larger-requires smaller-requires in-range-requires returns)

@@ -1,0 +1,29 @@
+-- Each end is negated in its place. Assumes nothing.
+use borrow.Author.Needs.{needs}
+use mir.Syntax.{w64}
+use Rattle.integers.specs.Locals.{got}
+use Rattle.arithmetic.proofs.Shared.{Same, landed}
+use Rattle.arithmetic.proofs.round_opposite.Statement.{statement}
+use Rattle.arithmetic.proofs.round_opposite.Tie as tie
+
+back : (s : tie.Start) → Same (s .args .a .lower) × Same (s .args .a .upper)
+back s = (search needs, search needs)
+
+negation-requires : tie.Need-negation-requires
+negation-requires c κs = search needs
+
+negation-requires-2 : tie.Need-negation-requires-2
+negation-requires-2 c κs = search needs
+
+in-range-requires : tie.Need-in-range-requires
+in-range-requires c κs = search needs
+
+returns : tie.Need-returns
+returns c =
+    let u = c .before in
+    let l = u .before .before in
+    let f = back (l .before .before) in
+    landed (c .in-range .ensures) (got w64 (l .negation .ok) (rw (f .0) at (l .negation .ensures))) (got w64 (u .negation2 .ok) (rw (f .1) at (u .negation2 .ensures)))
+
+pub round-opposite-spec : {M : Type 1} → statement M
+round-opposite-spec = tie.close (tie.spec negation-requires negation-requires-2 in-range-requires returns)
