@@ -15,7 +15,7 @@ use Rattle.lists.specs.declared.Unary.the-variants.{Negation, Opposite, Dual}
 use Rattle.lists.specs.declared.Binary.{Binary}
 use Rattle.lists.specs.declared.Step.{Step}
 use Rattle.lists.specs.declared.Step.the-variants.{Constant, One, Two, Unknown}
-use Rattle.lists.specs.Steps.{takes, leaves, is-unknown, constant-in}
+use Rattle.lists.specs.Steps.{takes, is-unknown, constant-in}
 use Rattle.lists.specs.Lists.{Result, value, refusal, Expression, constant, one, two, stepped, other, under, unary, binary, at, after, evaluated}
 use Rattle.engine.specs.declared.program.Instruction.{Instruction}
 use Rattle.engine.specs.Program.{Code, code, instruction, no-constant, turning, turned-at, added}
@@ -141,8 +141,8 @@ numbered-stepped k (Two g) r (b ∷ a ∷ ts) e u h n = ((n .1 .0, n .0, e), n .
 numbered-stepped k Unknown r ts e u h n = let z : _≡_ {A = ℕ} 0 1 = cc in absurd (omega arith)
 
 -- ---- a step more fits
-pub fits-more : (v d e : ℕ) (is : List Instruction) (i : Instruction) → Fits v d is e → takes (i .step) ≤ e → e - takes (i .step) + leaves (i .step) ≤ v
-    → Fits v d (is ++ (i ∷ [])) (e - takes (i .step) + leaves (i .step))
+pub fits-more : (v d e : ℕ) (is : List Instruction) (i : Instruction) → Fits v d is e → takes (i .step) ≤ e → e - takes (i .step) + 1 ≤ v
+    → Fits v d (is ++ (i ∷ [])) (e - takes (i .step) + 1)
 fits-more v d e [] i end h k = step h k end
 fits-more v d e (j ∷ is) i (step a b f) h k = step a b (fits-more v _ e is i f h k)
 

@@ -2,3 +2,4 @@
 pub mod Tops
 pub mod Compiled
 pub mod Stage
+pub mod Running

@@ -79,7 +79,7 @@ stage-first v steps s = record { trees = []; same = refl; reached = first; numbe
 fits-wider : (v w : ℕ) {d e : ℕ} {is : List Instruction} → v ≤ w → Fits v d is e → Fits w d is e
 fits-wider v w h end = end
 fits-wider v w h (step {d = d} {i = i} a b f) =
-    let c : d - takes (i .step) + leaves (i .step) ≤ w = omega (arith, b) in
+    let c : d - takes (i .step) + 1 ≤ w = omega (arith, b) in
     step a c (fits-wider v w h f)
 
 end-one : (v steps : ℕ) (s : List ℕ) (c : Code) (ts : List Expression) → v ≤ 16 → c .count ≤ 64 → length ts ≡ 1 → c ≡ compiled ts

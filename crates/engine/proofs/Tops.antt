@@ -24,6 +24,7 @@ module _ {A : Type 0} (d : A) where
   tops-top zero items h = absurd (omega arith)
   tops-top (suc n) items h = rw (sub-one (suc n))
 
-  pub tops-rest : (n : ℕ) (items : List A) → 1 ≤ n → tops d (n - 1) items ≡ drop 1 (tops d n items)
-  tops-rest zero items h = absurd (omega arith)
-  tops-rest (suc n) items h = rw (sub-one (suc n))
+  pub tops-drop : (n m : ℕ) (items : List A) → n ≤ m → tops d (m - n) items ≡ drop n (tops d m items)
+  tops-drop zero m items h = let e : m - 0 ≡ m = omega arith in rw e
+  tops-drop (suc n) zero items h = absurd (omega arith)
+  tops-drop (suc n) (suc m) items h = let e : suc m - suc n ≡ m - n = omega arith in rw e (tops-drop n m items (omega arith))

@@ -9,7 +9,7 @@ use Rattle.directed.specs.Choice.{if_then_else_}
 use Rattle.directed.specs.Answer as answers
 use Rattle.lists.specs.declared.Step.{Step}
 use Rattle.lists.specs.declared.Step.the-variants.{Constant, One, Two, Unknown}
-use Rattle.lists.specs.Steps.{takes, leaves}
+use Rattle.lists.specs.Steps.{takes}
 use Rattle.lists.specs.Lists.{Result, value, other, unary, binary, at, after}
 use Rattle.engine.specs.declared.program.Instruction.{Instruction}
 use Rattle.engine.specs.declared.machine.Stack.{Stack}
@@ -42,5 +42,5 @@ ran k w (i ∷ is) (m ∷ ms) xs =
 -- From depth d on no step lacks a value, at most v values wait, and e are left.
 pub data Fits (v : ℕ) : ℕ → List Instruction → ℕ → Type 0 where
   end : {d : ℕ} → Fits v d [] d
-  step : {d e : ℕ} {i : Instruction} {is : List Instruction} → takes (i .step) ≤ d → d - takes (i .step) + leaves (i .step) ≤ v
-      → Fits v (d - takes (i .step) + leaves (i .step)) is e → Fits v d (i ∷ is) e
+  step : {d e : ℕ} {i : Instruction} {is : List Instruction} → takes (i .step) ≤ d → d - takes (i .step) + 1 ≤ v → Fits v (d - takes (i .step) + 1) is e
+      → Fits v d (i ∷ is) e

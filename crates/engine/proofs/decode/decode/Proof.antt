@@ -1,3 +1,4 @@
+-- Each turn keeps the stage: the program so far is that of the expressions that wait. Assumes nothing.
 use borrow.Author.Needs.{needs}
 use mathlib.Core.Path.{_≡_, sym, ap, _∙_}
 use Prim.Native.Nat.{_+_, _-_, _≤_}
@@ -11,13 +12,7 @@ use Rattle.engine.proofs.Tops.{tops-length, tops-top}
 use Rattle.engine.proofs.Stage.{Stage, stage-first, added-starts, stage-start, stage-spent, stage-stops, stage-next, stage-end, stage-not-one}
 use Rattle.engine.proofs.decode.decode.Statement.{statement}
 use Rattle.engine.proofs.decode.decode.Tie as tie
-use Rattle.engine.proofs.decode.decode.Reads as reads
-use Rattle.engine.proofs.decode.decode.Lts as lts
-use Rattle.engine.proofs.judge.following.Reads as following-reads
-use Rattle.engine.proofs.judge.judge.Reads as judge-reads
-use Rattle.engine.proofs.judge.step_of.Reads as step-of-reads
-use Rattle.engine.proofs.program.Program.add.Reads as add-reads
-use Rattle.engine.proofs.program.Program.new.Reads as new-reads
+
 
 abbrev Inv-loop : tie.InvT-loop
 Inv-loop list values steps program₀ at₀ program at = (at ≤ length list) × (program .waiting ≤ values) × Stage values steps list (code-of program) (drop at list)
@@ -25,7 +20,6 @@ Inv-loop list values steps program₀ at₀ program at = (at ≤ length list) ×
 abbrev μ-loop : tie.MeasureT-loop
 μ-loop list values steps program₀ at₀ program at = length list - at
 
--- src/decode.rt:22:9
 fits-at : (c : tie.After-following Inv-loop μ-loop) → c .before .before .before .before .before .before .before .before .before .before .before .before .loop .at + 1 + c .following .result ≤ length (c .before .before .before .before .before .before .before .before .before .before .before .before .before .before .before .args .list .now)
 fits-at c =
     let l = c .before .before .before .before .before .before .before .before .before .before .before .before .loop in
@@ -35,52 +29,41 @@ fits-at c =
 new-requires : tie.Need-new-requires Inv-loop μ-loop
 new-requires c κs = tt
 
--- src/decode.rt:24:5
 loop-holds : tie.Need-loop-holds Inv-loop μ-loop
 loop-holds c =
     let p = c .new .result in
     let e : length (code-of p .starts) ≡ 0 = ap (λ (x : Code). length (x .starts)) (c .new .ensures) in
     (omega arith, omega (arith, e, tops-length 0 (p .waiting) (p .starts)), rw (c .new .ensures) (stage-first _ _ _))
 
--- src/decode.rt:26:13
 returns : tie.Need-returns Inv-loop μ-loop
 returns c =
     let l = c .before .before .before .loop in
     stage-spent _ _ (l .at) _ _ (l .inv .2) (omega arith) (omega arith)
 
--- src/decode.rt:31:35
 shared-slice-read-step-of : tie.Need-shared-slice-read-step-of Inv-loop μ-loop
 shared-slice-read-step-of c = omega arith
 
--- src/decode.rt:31:13
 step-of-requires : tie.Need-step-of-requires Inv-loop μ-loop
 step-of-requires c κs = tt
 
--- src/decode.rt:32:20
 add-next : tie.Need-add-next Inv-loop μ-loop
 add-next c = omega arith
 
--- src/decode.rt:33:67
 sub-judge : tie.Need-sub-judge Inv-loop μ-loop
 sub-judge c = omega arith
 
--- src/decode.rt:33:67
 part-judge-start : tie.Need-part-judge-start Inv-loop μ-loop
 part-judge-start c = omega arith
 
--- src/decode.rt:33:67
 part-judge-end : tie.Need-part-judge-end Inv-loop μ-loop
 part-judge-end c = omega arith
 
--- src/decode.rt:33:13
 judge-requires : tie.Need-judge-requires Inv-loop μ-loop
 judge-requires c κs = omega arith
 
--- src/decode.rt:35:13
 enum-told : tie.Need-enum-told Inv-loop μ-loop
 enum-told c = search needs
 
--- src/decode.rt:35:13
 returns-2 : tie.Need-returns-2 Inv-loop μ-loop
 returns-2 c =
     let l = c .before .before .before .before .before .before .before .before .before .loop in
@@ -92,19 +75,15 @@ returns-2 c =
 enum-told-2 : tie.Need-enum-told-2 Inv-loop μ-loop
 enum-told-2 c = search needs
 
--- src/decode.rt:37:37
 sub-add : tie.Need-sub-add Inv-loop μ-loop
 sub-add c = omega arith
 
--- src/decode.rt:37:37
 part-add-start : tie.Need-part-add-start Inv-loop μ-loop
 part-add-start c = omega arith
 
--- src/decode.rt:37:37
 part-add-end : tie.Need-part-add-end Inv-loop μ-loop
 part-add-end c = omega arith
 
--- src/decode.rt:37:9
 add-requires : tie.Need-add-requires Inv-loop μ-loop
 add-requires c κs =
     let l = c .before .before .before .before .before .before .before .before .before .before .loop in
@@ -116,19 +95,15 @@ add-requires c κs =
       start = λ h. rw (tops-top 0 (p .waiting) (p .starts) h) (stage-start _ _ (l .at) _ _ (l .inv .2) (omega (arith, tops-length 0 (p .waiting) (p .starts))));
     }, q .bytes, q .enough, omega (arith, q .room))
 
--- src/decode.rt:38:21
 following-requires : tie.Need-following-requires Inv-loop μ-loop
 following-requires c κs = tt
 
--- src/decode.rt:38:14
 add-at : tie.Need-add-at Inv-loop μ-loop
 add-at c = record { fits = omega (arith, fits-at c) }
 
--- src/decode.rt:24:5
 loop-less : tie.Need-loop-less Inv-loop μ-loop
 loop-less c = omega (arith, fits-at c)
 
--- src/decode.rt:24:5
 loop-again : tie.Need-loop-again Inv-loop μ-loop
 loop-again c =
     let l = c .before .before .before .before .before .before .before .before .before .before .before .before .loop in
@@ -142,13 +117,11 @@ loop-again c =
     rw (c .following .ensures)
     (stage-next _ _ (l .at) _ _ (l .inv .2) (l .program .waiting) (f .result) (omega arith) (omega arith) (tops-length 0 _ _) (f .ensures) _ e (r .ensures)))
 
--- src/decode.rt:18:1
 returns-3 : tie.Need-returns-3 Inv-loop μ-loop
 returns-3 c =
     let l = c .before .before .before .loop in
     stage-end _ _ (l .at) _ _ (l .inv .2) (c .before .before .before .before .before .before .pre .0) (c .before .before .before .before .before .before .pre .1) (omega arith) (tops-length 0 _ _ ∙ c .if2 .taken)
 
--- src/decode.rt:18:1
 returns-4 : tie.Need-returns-4 Inv-loop μ-loop
 returns-4 c =
     let l = c .before .before .before .loop in
