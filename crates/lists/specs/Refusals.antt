@@ -114,6 +114,7 @@ refusal-exactly v steps w s n k = (go (read v steps 0 [] s) (ends v steps s), ba
         let h : m ≡ n = cc in
         let j : i ≡ k = cc in
         reading (rw (h, j) at g)
+
     back : Refusal v steps w s n k → result w (read v steps 0 [] s) ≡ refusal n k
     back (reading g) = rw (ending-is v steps s g)
     back (evaluating g b) = rw (ending-is v steps s g) (blame-is b)

@@ -22,7 +22,6 @@ cause-answers : {v steps n : ℕ} {s : List ℕ} {c : Code} → Decodes v steps 
 unfolding answer
 cause-answers (refuses e) w = rw e
 
-
 decode-requires : tie.Need-decode-requires
 decode-requires c κs = search needs
 

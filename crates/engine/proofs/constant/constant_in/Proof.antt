@@ -6,7 +6,6 @@ use borrow.Author.Needs.{needs}
 use Rattle.engine.proofs.constant.constant_in.Statement.{statement}
 use Rattle.engine.proofs.constant.constant_in.Tie as tie
 
-
 end-at-requires : tie.Need-end-at-requires
 end-at-requires c κs = search needs
 

@@ -13,7 +13,6 @@ use Rattle.engine.proofs.Stage.{Stage, stage-first, added-starts, stage
 use Rattle.engine.proofs.decode.decode.Statement.{statement}
 use Rattle.engine.proofs.decode.decode.Tie as tie
 
-
 abbrev Inv-loop : tie.InvT-loop
 Inv-loop list values steps program₀ at₀ program at = (at ≤ length list) × (program .waiting ≤ values) × Stage values steps list (code-of program) (drop at list)
 
@@ -88,12 +87,16 @@ add-requires : tie.Need-add-requires Inv-loop μ-loop
 add-requires c κs =
     let l = c .before .before .before .before .before .before .before .before .before .before .loop in
     let p = l .program in
-    let q = judged-sound _ _ _ _ (rw (c .before .enum-told2 .given .1) at (c .before .before .before .judge .ensures)) in
-    (record {
-      count = omega arith;
-      waiting = omega arith;
-      start = λ h. rw (tops-top 0 (p .waiting) (p .starts) h) (stage-start _ _ (l .at) _ _ (l .inv .2) (omega (arith, tops-length 0 (p .waiting) (p .starts))));
-    }, q .bytes, q .enough, omega (arith, q .room))
+    let q = judged-sound _ _ _ _ (rw (c .before .enum-told2 .given .1) at (c .before .before .before .judge .ensures)) in (
+      record {
+        count = omega arith;
+        waiting = omega arith;
+        start = λ h. rw (tops-top 0 (p .waiting) (p .starts) h) (stage-start _ _ (l .at) _ _ (l .inv .2) (omega (arith, tops-length 0 (p .waiting) (p .starts))));
+      },
+      q .bytes,
+      q .enough,
+      omega (arith, q .room),
+    )
 
 following-requires : tie.Need-following-requires Inv-loop μ-loop
 following-requires c κs = tt
@@ -112,10 +115,12 @@ loop-again c =
     let q = judged-sound _ _ _ _ e in
     let r = c .before .add in
     let n = ap (λ (x : Code). length (x .starts)) (r .ensures) in
-    let m = added-starts (f .result) (constant-in (behind (c .before .before .before .before .before .before .before .before .before .before .before .before .before .before .before .args .list .now) (l .at))) (code-of (l .program)) in
-    (fits-at c, omega (arith, q .room, n, m, tops-length 0 (r .result .waiting) (r .result .starts), tops-length 0 (l .program .waiting) (l .program .starts)),
-    rw (c .following .ensures)
-    (stage-next _ _ (l .at) _ _ (l .inv .2) (l .program .waiting) (f .result) (omega arith) (omega arith) (tops-length 0 _ _) (f .ensures) _ e (r .ensures)))
+    let m = added-starts (f .result) (constant-in (behind (c .before .before .before .before .before .before .before .before .before .before .before .before .before .before .before .args .list .now) (l .at))) (code-of (l .program)) in (
+      fits-at c,
+      omega (arith, q .room, n, m, tops-length 0 (r .result .waiting) (r .result .starts), tops-length 0 (l .program .waiting) (l .program .starts)),
+      rw (c .following .ensures)
+          (stage-next _ _ (l .at) _ _ (l .inv .2) (l .program .waiting) (f .result) (omega arith) (omega arith) (tops-length 0 _ _) (f .ensures) _ e (r .ensures)),
+    )
 
 returns-3 : tie.Need-returns-3 Inv-loop μ-loop
 returns-3 c =

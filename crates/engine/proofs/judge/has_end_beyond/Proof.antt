@@ -4,7 +4,6 @@ use borrow.Author.Needs.{needs}
 use Rattle.engine.proofs.judge.has_end_beyond.Statement.{statement}
 use Rattle.engine.proofs.judge.has_end_beyond.Tie as tie
 
-
 enum-told : tie.Need-enum-told
 enum-told c = search needs
 

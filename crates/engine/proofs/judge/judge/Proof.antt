@@ -16,8 +16,6 @@ at-most-one (One f) = omega arith
 at-most-one (Two g) = omega arith
 at-most-one Unknown = omega arith
 
-
-
 has-no-code-requires : tie.Need-has-no-code-requires
 has-no-code-requires c κs = search needs
 

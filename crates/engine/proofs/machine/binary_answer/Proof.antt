@@ -4,7 +4,6 @@ use borrow.Author.Needs.{needs}
 use Rattle.engine.proofs.machine.binary_answer.Statement.{statement}
 use Rattle.engine.proofs.machine.binary_answer.Tie as tie
 
-
 enum-told : tie.Need-enum-told
 enum-told c = search needs
 

@@ -12,7 +12,6 @@ use Rattle.engine.proofs.Running.{Going, going-enough, going-room, goin
 use Rattle.engine.proofs.machine.run.Statement.{statement}
 use Rattle.engine.proofs.machine.run.Tie as tie
 
-
 abbrev Inv-loop : tie.InvT-loop
 Inv-loop program count way₀ stack₀ k₀ way stack k = (k ≤ count) × (stack .depth ≤ 16) × Going k (stack .depth) way (drop k (code-of program .instructions)) (drop k (code-of program .turns)) (values-of stack) (ran 0 way₀ (code-of program .instructions) (code-of program .turns) [])
 
@@ -101,7 +100,7 @@ loop-again c =
     let z = sizes s in
     let r = c .put .result in
     let q =
-        going-put (p .count) (l .k) (p .instructions) (p .turns) (z .0) (z .1) _ _ (l .stack .items) _ (l .inv .2) _ (omega arith) _ _ _ (r .depth) (r .items)
+    going-put (p .count) (l .k) (p .instructions) (p .turns) (z .0) (z .1) _ _ (l .stack .items) _ (l .inv .2) _ (omega arith) _ _ _ (r .depth) (r .items)
     (c .before .before .before .before .before .before .before .turned .ensures) (c .before .before .taken .ensures) (rw (c .before .before .before .before .answer .given .1) at (c .before .before .before .before .before .before .step-answer .ensures)) (c .put .ensures) in
     (omega arith, q .0, q .1)
 

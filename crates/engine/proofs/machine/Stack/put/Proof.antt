@@ -8,7 +8,6 @@ use borrow.Author.Needs.{needs}
 use Rattle.engine.proofs.machine.Stack.put.Statement.{statement}
 use Rattle.engine.proofs.machine.Stack.put.Tie as tie
 
-
 mul-x : tie.Need-mul-x
 mul-x c = search needs
 

@@ -4,7 +4,6 @@ use borrow.Author.Needs.{needs}
 use Rattle.engine.proofs.program.Program.add.Statement.{statement}
 use Rattle.engine.proofs.program.Program.add.Tie as tie
 
-
 enum-told : tie.Need-enum-told
 enum-told c = search needs
 

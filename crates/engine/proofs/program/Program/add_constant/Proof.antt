@@ -7,7 +7,6 @@ use borrow.Author.Needs.{needs}
 use Rattle.engine.proofs.program.Program.add_constant.Statement.{statement}
 use Rattle.engine.proofs.program.Program.add_constant.Tie as tie
 
-
 open-requires : tie.Need-open-requires
 open-requires c κs = search needs
 

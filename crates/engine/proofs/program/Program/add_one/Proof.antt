@@ -8,7 +8,6 @@ use borrow.Author.Needs.{needs}
 use Rattle.engine.proofs.program.Program.add_one.Statement.{statement}
 use Rattle.engine.proofs.program.Program.add_one.Tie as tie
 
-
 is-turning-requires : tie.Need-is-turning-requires
 is-turning-requires c κs = search needs
 

@@ -7,7 +7,6 @@ use borrow.Author.Needs.{needs}
 use Rattle.engine.proofs.program.Program.add_two.Statement.{statement}
 use Rattle.engine.proofs.program.Program.add_two.Tie as tie
 
-
 close-requires : tie.Need-close-requires
 close-requires c κs = search needs
 

@@ -17,7 +17,6 @@ append-code : (n : ℕ) (is : List Instruction) (ms : List Bool) (ss : List ℕ)
     → code (n + 1) (take (n + 1) (set is n i)) (take (n + 1) (set ms n m)) ss ≡ code (n + 1) (take n is ++ (i ∷ [])) (take n ms ++ (m ∷ [])) ss
 append-code n is ms ss i m h k = rw (add-one, take-suc-set is n i h, take-suc-set ms n m k)
 
-
 mul-instruction : tie.Need-mul-instruction
 mul-instruction c = search needs
 

@@ -4,7 +4,6 @@ use borrow.Author.Needs.{needs}
 use Rattle.engine.proofs.program.Program.close.Statement.{statement}
 use Rattle.engine.proofs.program.Program.close.Tie as tie
 
-
 sub-self : tie.Need-sub-self
 sub-self c = search needs
 

@@ -7,7 +7,6 @@ use borrow.Author.Needs.{needs}
 use Rattle.engine.proofs.program.Program.open.Statement.{statement}
 use Rattle.engine.proofs.program.Program.open.Tie as tie
 
-
 mul-self : tie.Need-mul-self
 mul-self c = search needs
 

@@ -12,7 +12,6 @@ use borrow.Author.Needs.{needs}
 use Rattle.engine.proofs.program.Program.turn.Statement.{statement}
 use Rattle.engine.proofs.program.Program.turn.Tie as tie
 
-
 turn-code : (n d : ℕ) (is : List Instruction) (ms : List Bool) (ss : List ℕ) → 1 ≤ d → getD ss (d - 1) 0 < n
     → code n is (take n (turned-at (getD ss (d - 1) 0) ms)) (tops 0 d ss) ≡ code n is (turned-at (getD (tops 0 d ss) 0 0) (take n ms)) (tops 0 d ss)
 turn-code n d is ms ss h k =
