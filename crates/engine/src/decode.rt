@@ -1,5 +1,4 @@
 // Reading a list into a program: 01's causes step by step, then 11.
-ghost use mathlib.Core.Path.{_≡_};
 ghost use Prim.Native.Nat.{_≤_};
 ghost use Rattle.engine.specs.Verdict.{judged};
 ghost use Rattle.engine.specs.Program.{code-of};

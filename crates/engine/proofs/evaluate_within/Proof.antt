@@ -1,5 +1,5 @@
 -- A refusal is the one that reading comes to, and a program gives the list's answer. Assumes nothing.
-use mathlib.Core.Path.{_≡_, sym, _∙_}
+use mathlib.Core.Path.{_≡_, _∙_}
 use mathlib.Core.List.{List, []}
 use Prim.Native.Nat.{ℕ}
 use Rattle.directed.specs.declared.Rounding.{Rounding}
