@@ -15,7 +15,7 @@ use Rattle.lists.specs.declared.Unary.the-variants.{Negation, Opposite, Dual}
 use Rattle.lists.specs.declared.Binary.{Binary}
 use Rattle.lists.specs.declared.Step.{Step}
 use Rattle.lists.specs.declared.Step.the-variants.{Constant, One, Two, Unknown}
-use Rattle.lists.specs.Steps.{takes, is-unknown, constant-in}
+use Rattle.lists.specs.Steps.{takes, is-unknown}
 use Rattle.lists.specs.Lists.{Result, value, refusal, Expression, constant, one, two, stepped, other, under, unary, binary, at, after, evaluated}
 use Rattle.engine.specs.declared.program.Instruction.{Instruction}
 use Rattle.engine.specs.Program.{Code, code, instruction, no-constant, turning, turned-at, added}
@@ -91,28 +91,33 @@ size-above (one k f a) = omega arith
 size-above (two k g a b) = omega arith
 
 -- ---- a step more
-turned-seam : (xs ys : List Bool) → turned-at (length xs) (xs ++ ys) ≡ xs ++ turn-first ys
-turned-seam [] [] = refl
-turned-seam [] (y ∷ ys) = refl
-turned-seam (x ∷ xs) ys = ap (λ l. x ∷ l) (turned-seam xs ys)
+turned-first : (xs ys : List Bool) → turned-at (length xs) (xs ++ ys) ≡ xs ++ turn-first ys
+turned-first [] [] = refl
+turned-first [] (y ∷ ys) = refl
+turned-first (x ∷ xs) ys = ap (λ l. x ∷ l) (turned-first xs ys)
 
 turned-all : (ts : List Expression) (ys : List Bool) → turned-at (all-size ts) (all-turns ts ++ ys) ≡ all-turns ts ++ turn-first ys
-turned-all ts ys = rw (← all-turns-length ts) (turned-seam (all-turns ts) ys)
+turned-all ts ys = rw (← all-turns-length ts) (turned-first (all-turns ts) ys)
+
+turned-seam : (ts : List Expression) (f : Unary) (ys : List Bool)
+    → (if turning f then turned-at (all-size ts) (all-turns ts ++ ys) else (all-turns ts ++ ys)) ≡ all-turns ts ++ (if turning f then turn-first ys else ys)
+turned-seam ts Negation ys = refl
+turned-seam ts Opposite ys = turned-all ts ys
+turned-seam ts Dual ys = turned-all ts ys
 
 pub added-compiled : (k : ℕ) (s : Step) (r : List ℕ) (ts : List Expression) → is-unknown s ≡ false → takes s ≤ length ts
-    → added s (constant-in r) (compiled ts) ≡ compiled (stepped k s r ts)
+    → added s r (compiled ts) ≡ compiled (stepped k s r ts)
 unfolding size flat turns
 added-compiled k Constant r ts u h = refl
 added-compiled k (One f) r [] u h = absurd (omega arith)
-added-compiled k (One Negation) r (a ∷ ts) u h =
+added-compiled k (One f) r (a ∷ ts) u h =
     let e : all-size ts + size a + 1 ≡ all-size ts + (size a + 1) = omega arith in
-    rw (e, append-assoc (all-flat ts) (flat a), append-assoc (all-turns ts) (turns a))
-added-compiled k (One Opposite) r (a ∷ ts) u h =
-    let e : all-size ts + size a + 1 ≡ all-size ts + (size a + 1) = omega arith in
-    rw (e, append-assoc (all-flat ts) (flat a), turned-all ts (turns a), append-assoc (all-turns ts) (turn-first (turns a)))
-added-compiled k (One Dual) r (a ∷ ts) u h =
-    let e : all-size ts + size a + 1 ≡ all-size ts + (size a + 1) = omega arith in
-    rw (e, append-assoc (all-flat ts) (flat a), turned-all ts (turns a), append-assoc (all-turns ts) (turn-first (turns a)))
+    rw (
+      e,
+      append-assoc (all-flat ts) (flat a),
+      turned-seam ts f (turns a),
+      append-assoc (all-turns ts) (if turning f then turn-first (turns a) else turns a),
+    )
 added-compiled k (Two g) r [] u h = absurd (omega arith)
 added-compiled k (Two g) r (b ∷ []) u h = absurd (omega arith)
 added-compiled k (Two g) r (b ∷ a ∷ ts) u h =

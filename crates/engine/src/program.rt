@@ -1,12 +1,11 @@
 // A decoded list: its steps in order, and at which of them the way of rounding turns.
 ghost use mathlib.Core.Path.{_≡_};
-ghost use Prim.Native.Nat.{_+_, _-_, _≤_, _<_};
-ghost use lib.ListN.{length, getD};
-ghost use Rattle.lists.specs.Steps.{takes, leaves, follows, constant-in};
-ghost use Rattle.engine.specs.Program.{code-of, empty, appended, opened, closed, turned, turning, added, no-constant, Room};
+ghost use Prim.Native.Nat.{_≤_};
+ghost use lib.ListN.{length};
+ghost use Rattle.lists.specs.Steps.{follows};
+ghost use Rattle.engine.specs.Program.{step-turns, turned-by, first-step, step-constant};
 use crate::constant;
 use directed::Interval;
-use lists::Binary;
 use lists::Step;
 use lists::Unary;
 
@@ -20,13 +19,28 @@ pub struct Program {
     // Whether a step is wanted in the other way than the step before it; the first step, than the way asked.
     pub turns: [bool; 64],
     pub count: usize,
-    // The first step of each waiting expression. An expression's steps stand together, so dual and opposite turn one stretch of steps.
-    pub starts: [usize; 16],
-    pub waiting: usize,
+}
+
+impl Program {
+    pub fn new() -> Program
+        ensures { λ r. ⌜ (r .count ≡ 0) × (length (r .instructions) ≡ 64) × (length (r .turns) ≡ 64) ⌝ }
+    {
+        let none = Instruction {
+            step: Step::Constant,
+            constant: Interval::ZERO,
+        };
+        let instructions = [none; 64];
+        let turns = [false; 64];
+        Program {
+            instructions,
+            turns,
+            count: 0,
+        }
+    }
 }
 
 fn is_turning(op: Unary) -> bool
-    ensures { λ r. ⌜ r ≡ turning op ⌝ }
+    ensures { λ r. ⌜ r ≡ step-turns (Step.One op) ⌝ }
 {
     match op {
         Unary::Negation => false,
@@ -35,128 +49,44 @@ fn is_turning(op: Unary) -> bool
     }
 }
 
-impl Program {
-    pub fn new() -> Program
-        ensures { λ r. ⌜ code-of r ≡ empty ⌝ }
-    {
-        let none = Instruction {
-            step: Step::Unknown,
-            constant: Interval::ZERO,
-        };
-        let instructions = [none; 64];
-        let turns = [false; 64];
-        let starts = [0; 16];
-        Program {
-            instructions,
-            turns,
-            count: 0,
-            starts,
-            waiting: 0,
-        }
+// Whether what the step is applied to is wanted in the other way than the step.
+pub fn has_turn(step: Step) -> bool
+    ensures { λ r. ⌜ r ≡ step-turns step ⌝ }
+{
+    match step {
+        Step::Constant => false,
+        Step::One(op) => is_turning(op),
+        Step::Two(_) => false,
+        Step::Unknown => false,
     }
+}
 
-    fn append(mut self, instruction: Instruction, turn: bool) -> Program
-        requires { ⌜ self .count < 64 ⌝ }
-        ensures { λ r. ⌜ code-of r ≡ appended instruction turn (code-of self) ⌝ }
-    {
-        let n = self.count;
-        self.instructions[n] = instruction;
-        self.turns[n] = turn;
-        self.count = n + 1;
-        self
+pub fn turned_by(turn: bool, other: bool) -> bool
+    ensures { λ r. ⌜ r ≡ turned-by turn other ⌝ }
+{
+    if turn { !other } else { other }
+}
+
+// The first step of the expression that ends with a step: its own number, or the first step of what it takes.
+pub fn first_step(step: Step, taken: usize, number: usize) -> usize
+    ensures { λ r. ⌜ r ≡ first-step step taken number ⌝ }
+{
+    match step {
+        Step::Constant => number,
+        Step::One(_) => taken,
+        Step::Two(_) => taken,
+        Step::Unknown => taken,
     }
+}
 
-    // A further expression waits, from the next step on.
-    fn open(mut self) -> Program
-        requires { ⌜ self .waiting < 16 ⌝ }
-        ensures { λ r. ⌜ code-of r ≡ opened (code-of self) ⌝ }
-    {
-        let n = self.waiting;
-        let count = self.count;
-        self.starts[n] = count;
-        self.waiting = n + 1;
-        self
-    }
-
-    // The two latest waiting expressions become one, which starts where the earlier one does.
-    fn close(mut self) -> Program
-        requires { ⌜ 1 ≤ self .waiting ⌝ }
-        ensures { λ r. ⌜ code-of r ≡ closed (code-of self) ⌝ }
-    {
-        let n = self.waiting;
-        self.waiting = n - 1;
-        self
-    }
-
-    // The steps of the latest waiting expression are wanted in the other way.
-    fn turn(mut self) -> Program
-        requires { ⌜ (1 ≤ self .waiting) × (self .waiting ≤ 16) × (getD (self .starts) (self .waiting - 1) 0 < self .count) × (self .count ≤ 64) ⌝ }
-        ensures { λ r. ⌜ code-of r ≡ turned (code-of self) ⌝ }
-    {
-        let n = self.waiting - 1;
-        let first = self.starts[n];
-        let t = self.turns[first];
-        self.turns[first] = !t;
-        self
-    }
-
-    fn add_constant(self, constant: Interval) -> Program
-        requires { ⌜ (self .count < 64) × (self .waiting < 16) ⌝ }
-        ensures { λ r. ⌜ code-of r ≡ added Step.Constant constant (code-of self) ⌝ }
-    {
-        let opened = self.open();
-        opened.append(
-            Instruction {
-                step: Step::Constant,
-                constant,
-            },
-            false,
-        )
-    }
-
-    fn add_one(self, op: Unary) -> Program
-        requires { ⌜ Room self × (1 ≤ self .waiting) ⌝ }
-        ensures { λ r. ⌜ code-of r ≡ added (Step.One op) no-constant (code-of self) ⌝ }
-    {
-        let instruction = Instruction {
-            step: Step::One(op),
-            constant: Interval::ZERO,
-        };
-        if is_turning(op) {
-            let turned = self.turn();
-            turned.append(instruction, true)
-        } else {
-            self.append(instruction, false)
-        }
-    }
-
-    fn add_two(self, op: Binary) -> Program
-        requires { ⌜ Room self × (1 ≤ self .waiting) ⌝ }
-        ensures { λ r. ⌜ code-of r ≡ added (Step.Two op) no-constant (code-of self) ⌝ }
-    {
-        let closed = self.close();
-        closed.append(
-            Instruction {
-                step: Step::Two(op),
-                constant: Interval::ZERO,
-            },
-            false,
-        )
-    }
-
-    // A step more, `rest` being the bytes behind its code.
-    pub fn add(self, step: Step, rest: &[u8]) -> Program
-        requires { ⌜ Room self × (follows step ≤ length (now rest)) × (takes step ≤ self .waiting) × (self .waiting - takes step + leaves step ≤ 16) ⌝ }
-        ensures { λ r. ⌜ code-of r ≡ added step (constant-in (now (rest .entry))) (code-of self) ⌝ }
-    {
-        match step {
-            Step::Constant => {
-                let constant = constant::constant_in(rest);
-                self.add_constant(constant)
-            }
-            Step::One(op) => self.add_one(op),
-            Step::Two(op) => self.add_two(op),
-            Step::Unknown => self,
-        }
+pub fn constant_of(step: Step, rest: &[u8]) -> Interval
+    requires { ⌜ follows step ≤ length (now rest) ⌝ }
+    ensures { λ r. ⌜ r ≡ step-constant step (now (rest .entry)) ⌝ }
+{
+    match step {
+        Step::Constant => constant::constant_in(rest),
+        Step::One(_) => Interval::ZERO,
+        Step::Two(_) => Interval::ZERO,
+        Step::Unknown => Interval::ZERO,
     }
 }
