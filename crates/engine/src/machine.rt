@@ -103,6 +103,7 @@ fn step_answer(stack: Stack, step: Step, constant: Interval, rounding: Rounding)
     }
 }
 
+// Cause 4 comes here alone, at the first step whose value in its way is beyond the range.
 pub fn run(program: Program, rounding: Rounding) -> ListAnswer
     requires { ⌜ Runs (program .count) (instructions-of program) ⌝ }
     ensures { λ r. ⌜ outcome r ≡ ran 0 rounding (instructions-of program) (turns-of program) [] ⌝ }
