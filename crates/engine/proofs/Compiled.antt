@@ -69,15 +69,14 @@ turn-first-length : (ms : List Bool) → length (turn-first ms) ≡ length ms
 turn-first-length [] = refl
 turn-first-length (m ∷ ms) = refl
 
-turn-length : (f : Unary) (ms : List Bool) → length (if turning f then turn-first ms else ms) ≡ length ms
-turn-length Negation ms = refl
-turn-length Opposite ms = turn-first-length ms
-turn-length Dual ms = turn-first-length ms
+turn-length : (b : Bool) (ms : List Bool) → length (if b then turn-first ms else ms) ≡ length ms
+turn-length true ms = turn-first-length ms
+turn-length false ms = refl
 
 turns-length : (t : Expression) → length (turns t) ≡ size t
 unfolding turns size
 turns-length (constant k p) = refl
-turns-length (one k f a) = simp length-append (omega (arith, turn-length f (turns a), turns-length a))
+turns-length (one k f a) = simp length-append (omega (arith, turn-length (turning f) (turns a), turns-length a))
 turns-length (two k g a b) = simp length-append (omega (arith, turns-length a, turns-length b))
 
 all-turns-length : (ts : List Expression) → length (all-turns ts) ≡ all-size ts
@@ -96,14 +95,10 @@ turned-first [] [] = refl
 turned-first [] (y ∷ ys) = refl
 turned-first (x ∷ xs) ys = ap (λ l. x ∷ l) (turned-first xs ys)
 
-turned-all : (ts : List Expression) (ys : List Bool) → turned-at (all-size ts) (all-turns ts ++ ys) ≡ all-turns ts ++ turn-first ys
-turned-all ts ys = rw (← all-turns-length ts) (turned-first (all-turns ts) ys)
-
-turned-seam : (ts : List Expression) (f : Unary) (ys : List Bool)
-    → (if turning f then turned-at (all-size ts) (all-turns ts ++ ys) else (all-turns ts ++ ys)) ≡ all-turns ts ++ (if turning f then turn-first ys else ys)
-turned-seam ts Negation ys = refl
-turned-seam ts Opposite ys = turned-all ts ys
-turned-seam ts Dual ys = turned-all ts ys
+turned-seam : (ts : List Expression) (b : Bool) (ys : List Bool)
+    → (if b then turned-at (all-size ts) (all-turns ts ++ ys) else (all-turns ts ++ ys)) ≡ all-turns ts ++ (if b then turn-first ys else ys)
+turned-seam ts true ys = rw (← all-turns-length ts) (turned-first (all-turns ts) ys)
+turned-seam ts false ys = refl
 
 pub added-compiled : (k : ℕ) (s : Step) (r : List ℕ) (ts : List Expression) → is-unknown s ≡ false → takes s ≤ length ts
     → added s r (compiled ts) ≡ compiled (stepped k s r ts)
@@ -115,7 +110,7 @@ added-compiled k (One f) r (a ∷ ts) u h =
     rw (
       e,
       append-assoc (all-flat ts) (flat a),
-      turned-seam ts f (turns a),
+      turned-seam ts (turning f) (turns a),
       append-assoc (all-turns ts) (if turning f then turn-first (turns a) else turns a),
     )
 added-compiled k (Two g) r [] u h = absurd (omega arith)
@@ -167,18 +162,20 @@ turn-first-append : (xs ys : List Bool) → 1 ≤ length xs → turn-first xs ++
 turn-first-append [] ys h = absurd (omega arith)
 turn-first-append (x ∷ xs) ys h = refl
 
-ran-under : (k : ℕ) (f : Unary) (w : Rounding) (a : Expression) (is : List Instruction) (ms : List Bool) (xs : List Interval)
-    → ran k w is ((if turning f then turn-first (turns a) else turns a) ++ ms) xs ≡ ran k (under f w) is (turns a ++ ms) xs
-ran-under k Negation w a is ms xs = refl
-ran-under k Opposite w a is ms xs = rw (turn-first-append (turns a) ms (omega (arith, turns-length a, size-above a))) (ran-turn k w is (turns a ++ ms) xs)
-ran-under k Dual w a is ms xs = rw (turn-first-append (turns a) ms (omega (arith, turns-length a, size-above a))) (ran-turn k w is (turns a ++ ms) xs)
+ran-turned : (k : ℕ) (b : Bool) (w : Rounding) (a : Expression) (is : List Instruction) (ms : List Bool) (xs : List Interval)
+    → ran k w is ((if b then turn-first (turns a) else turns a) ++ ms) xs ≡ ran k (way-after b w) is (turns a ++ ms) xs
+ran-turned k true w a is ms xs = rw (turn-first-append (turns a) ms (omega (arith, turns-length a, size-above a))) (ran-turn k w is (turns a ++ ms) xs)
+ran-turned k false w a is ms xs = refl
 
-under-back : (f : Unary) (w : Rounding) → way-after (turning f) (under f w) ≡ w
-under-back Negation w = refl
-under-back Opposite Outward = refl
-under-back Opposite Inward = refl
-under-back Dual Outward = refl
-under-back Dual Inward = refl
+under-way : (f : Unary) (w : Rounding) → under f w ≡ way-after (turning f) w
+under-way Negation w = refl
+under-way Opposite w = refl
+under-way Dual w = refl
+
+way-back : (b : Bool) (w : Rounding) → way-after b (way-after b w) ≡ w
+way-back true Outward = refl
+way-back true Inward = refl
+way-back false w = refl
 
 after-cong : (r : Result) (f g : Interval → Result) → ((x : Interval) → f x ≡ g x) → after r f ≡ after r g
 after-cong (value x) f g e = e x
@@ -194,9 +191,9 @@ unfolding ran
 ran-constant k w p is ms xs = rw add-one
 
 ran-one : (k j l : ℕ) (f : Unary) (w : Rounding) (is : List Instruction) (ms : List Bool) (xs : List Interval) (r : Result) → j ≡ k → suc k ≡ l
-    → after r (λ x. ran k (under f w) (instruction (One f) no-constant ∷ is) (turning f ∷ ms) (x ∷ xs)) ≡ after (after r λ x. at j (unary f x)) (λ z. ran l w is ms (z ∷ xs))
+    → after r (λ x. ran k (way-after (turning f) w) (instruction (One f) no-constant ∷ is) (turning f ∷ ms) (x ∷ xs)) ≡ after (after r λ x. at j (unary f x)) (λ z. ran l w is ms (z ∷ xs))
 unfolding ran
-ran-one k j l f w is ms xs (value x) e h = rw (under-back f w, e, ← h)
+ran-one k j l f w is ms xs (value x) e h = rw (way-back (turning f) w, e, ← h)
 ran-one k j l f w is ms xs (refusal n i) e h = refl
 
 ran-two : (k j l : ℕ) (g : Binary) (w : Rounding) (is : List Instruction) (ms : List Bool) (xs : List Interval) (r q : Result) → j ≡ k → suc k ≡ l
@@ -212,10 +209,15 @@ ran-flat : (k : ℕ) (w : Rounding) (t : Expression) (is : List Instruction) (ms
 unfolding flat turns size evaluated
 ran-flat k w (constant j p) is ms xs n = ran-constant k w p is ms xs
 ran-flat k w (one j f a) is ms xs n =
-    rw (append-assoc (flat a) (instruction (One f) no-constant ∷ []) is, append-assoc (if turning f then turn-first (turns a) else turns a) (turning f ∷ []) ms)
-    (ran-under k f w a _ _ xs
-    ∙ ran-flat k (under f w) a (instruction (One f) no-constant ∷ is) (turning f ∷ ms) xs (n .0)
-    ∙ ran-one (k + size a) j (k + (size a + 1)) f w is ms xs (evaluated (under f w) a) (n .1) (omega arith))
+    let v = way-after (turning f) w in
+    rw (
+      append-assoc (flat a) (instruction (One f) no-constant ∷ []) is,
+      append-assoc (if turning f then turn-first (turns a) else turns a) (turning f ∷ []) ms,
+      under-way f w,
+    )
+    (ran-turned k (turning f) w a _ _ xs
+    ∙ ran-flat k v a (instruction (One f) no-constant ∷ is) (turning f ∷ ms) xs (n .0)
+    ∙ ran-one (k + size a) j (k + (size a + 1)) f w is ms xs (evaluated v a) (n .1) (omega arith))
 ran-flat k w (two j g a b) is ms xs n =
     let i = instruction (Two g) no-constant in
     rw (
