@@ -1,42 +1,45 @@
--- Quotients rounded down and up, by their universal properties. Assumes nothing.
-use mathlib.Core.Path.{_≡_, refl, sym, ap, _∙_, subst}
+-- Quotients rounded down and up: their definitions, their universal properties, and how code computes them. Assumes nothing.
 use mathlib.Core.Logic.{_↔_}
-use Prim.Native.Nat.{ℕ, zero, suc, _+_, _*_, _-_, _/_, _^_, _≤_, _<_}
+use mathlib.Core.Path.{_≡_, _∙_, refl, ap}
+use Prim.Native.Nat.{ℕ, _<_, _/_, _≤_, suc, _*_}
+use native.Mathlib.Nat.{le-div-iff-mul-le, div-lt-iff-lt-mul, div-le-self, mul-pos}
 use native.Mathlib.Omega.{arith}
-use native.Mathlib.Nat.{le-div-iff-mul-le, div-lt-iff-lt-mul, div-le-self}
-use lib.Dec.{T, leb, leb→le}
-use lib.IntN.{ℤ, pos, negsuc, negℤ, natAbs, negℤ-negℤ, _+ℤ_, _-ℤ_, _*ℤ_}
-use lib.Signed.{mag, quotZ, shrZ, _≤ℤ_, _<ℤ_}
-use Rattle.integers.specs.Parts.{up, dn, sum, minus, less, times, lin, le-make, le-read, sub-parts, diffs, is-diff}
+use lib.IntN.{ℤ, pos, negsuc, natAbs, _-ℤ_, negℤ, _*ℤ_}
+use lib.Signed.{_≤ℤ_, _<ℤ_, quotZ, mag, ≤ℤ-refl}
+use Rattle.integers.specs.Laws.{negℤ-*ℤ, ≤ℤ-antisym, *ℤ-mono, *ℤ-cancel-≤}
+use Rattle.integers.specs.Parts.{sum, minus, is-diff, diffs, lin}
+use Rattle.integers.specs.Sizes.{abs-neg}
 
--- n over d, rounded down: d above 0
+-- ⌊n / d⌋ for a natural d above 0; −(n + 1) over d is −(⌊n / d⌋ + 1)
 unfoldable pub floor-nat : ℤ → ℕ → ℤ
 floor-nat (pos n) d = pos (n / d)
 floor-nat (negsuc n) d = negsuc (n / d)
 
--- of either sign of the divisor
+-- ⌊n / d⌋ for d of either sign
 unfoldable pub floor : ℤ → ℤ → ℤ
 floor n (pos d) = floor-nat n d
 floor n (negsuc d) = floor-nat (negℤ n) (suc d)
 
+-- ⌈n / d⌉
 unfoldable pub ceiling : ℤ → ℤ → ℤ
 ceiling n d = negℤ (floor (negℤ n) d)
 
-pub floor-nat-up : (k n : ℤ) (d : ℕ) → 0 < d → k ≤ℤ floor-nat n d → (k *ℤ pos d) ≤ℤ n
+-- ---- the universal property: k ≤ ⌊n / d⌋ exactly when k · d ≤ n
+floor-nat-up : (k n : ℤ) (d : ℕ) → 0 < d → k ≤ℤ floor-nat n d → (k *ℤ pos d) ≤ℤ n
 unfolding floor-nat
 floor-nat-up (pos k) (pos n) d z h = omega (lin, le-div-iff-mul-le {x = k} {y = n} z .0 (omega lin))
 floor-nat-up (pos k) (negsuc n) d z h = absurd (h .le)
 floor-nat-up (negsuc k) (pos n) d z h = omega (lin, minus (pos (suc k * d)))
 floor-nat-up (negsuc k) (negsuc n) d z h = omega (lin, minus (pos (suc k * d)), div-lt-iff-lt-mul {x = n} {y = suc k} z .0 (omega lin))
 
-pub floor-nat-down : (k n : ℤ) (d : ℕ) → 0 < d → (k *ℤ pos d) ≤ℤ n → k ≤ℤ floor-nat n d
+floor-nat-down : (k n : ℤ) (d : ℕ) → 0 < d → (k *ℤ pos d) ≤ℤ n → k ≤ℤ floor-nat n d
 unfolding floor-nat
 floor-nat-down (pos k) (pos n) d z h = omega (lin, le-div-iff-mul-le {x = k} {y = n} z .1 (omega lin))
 floor-nat-down (pos k) (negsuc n) d z h = absurd (h .le)
 floor-nat-down (negsuc k) (pos n) d z h = omega lin
 floor-nat-down (negsuc k) (negsuc n) d z h = omega (lin, div-lt-iff-lt-mul {x = n} {y = suc k} z .1 (omega (lin, minus (pos (suc k * d)))))
 
-pub floor-nat-iff : (k n : ℤ) (d : ℕ) → 0 < d → (k ≤ℤ floor-nat n d) ↔ ((k *ℤ pos d) ≤ℤ n)
+floor-nat-iff : (k n : ℤ) (d : ℕ) → 0 < d → (k ≤ℤ floor-nat n d) ↔ ((k *ℤ pos d) ≤ℤ n)
 floor-nat-iff k n d z = (floor-nat-up k n d z, floor-nat-down k n d z)
 
 -- the same of a divisor of either sign
@@ -121,27 +124,28 @@ unfolding floor-nat
 floor-nat-abs (pos n) d = div-le-self n d
 floor-nat-abs (negsuc n) d = omega (arith, div-le-self n d)
 
-neg-abs : (n : ℤ) → natAbs (negℤ n) ≡ natAbs n
-neg-abs (pos zero) = refl
-neg-abs (pos (suc n)) = refl
-neg-abs (negsuc n) = refl
-
 pub floor-abs : (n d : ℤ) → natAbs (floor n d) ≤ natAbs n
 unfolding floor
 floor-abs n (pos d) = floor-nat-abs n d
-floor-abs n (negsuc d) = omega (arith, floor-nat-abs (negℤ n) (suc d), neg-abs n)
+floor-abs n (negsuc d) = omega (arith, floor-nat-abs (negℤ n) (suc d), abs-neg n)
 
--- of a difference of naturals
-pub floor-ahead : (p q d : ℕ) → q ≤ p → floor (pos p -ℤ pos q) (pos d) ≡ pos ((p - q) / d)
-unfolding floor floor-nat
-floor-ahead p q d h = rw (e) refl
-  where
-    e : pos p -ℤ pos q ≡ pos (p - q)
-    e = omega (lin, less (pos p) (pos q))
+-- ---- a common factor cancels
+floor-below : (n d : ℤ) → pos 0 <ℤ d → (floor n d *ℤ d) ≤ℤ n
+floor-below n d z = floor-iff (floor n d) n d z .0 (≤ℤ-refl (floor n d))
 
-pub floor-behind : (p q d : ℕ) → p < q → floor (pos p -ℤ pos q) (pos d) ≡ negsuc 0 -ℤ pos ((q - p - 1) / d)
-unfolding floor floor-nat
-floor-behind p q d h = rw (e, minus-one' ((q - p - 1) / d)) refl
-  where
-    e : pos p -ℤ pos q ≡ negsuc (q - p - 1)
-    e = omega (lin, less (pos p) (pos q))
+module _ (n : ℤ) (d k : ℕ) (z : 0 < d) (y : 0 < k) where
+  regroup : (q : ℤ) → q *ℤ pos (d * k) ≡ (q *ℤ pos d) *ℤ pos k
+  regroup q = rw (is-diff q) (simp diffs (omega arith))
+
+  pub floor-scaled : floor (n *ℤ pos k) (pos (d * k)) ≡ floor n (pos d)
+  floor-scaled =
+      ≤ℤ-antisym
+      (floor-iff _ n (pos d) (omega lin) .1 (*ℤ-cancel-≤ _ _ (pos k) (omega lin) (rw (regroup (floor (n *ℤ pos k) (pos (d * k)))) at (floor-below (n *ℤ pos k) (pos (d * k)) above))))
+      (floor-iff _ (n *ℤ pos k) (pos (d * k)) above .1 (rw (regroup (floor n (pos d))) (*ℤ-mono _ _ (pos k) (omega lin) (floor-below n (pos d) (omega lin)))))
+    where
+      above : pos 0 <ℤ pos (d * k)
+      above = let h : 0 < d * k = mul-pos z y in omega lin
+
+pub ceiling-scaled : (n : ℤ) (d k : ℕ) → 0 < d → 0 < k → ceiling (n *ℤ pos k) (pos (d * k)) ≡ ceiling n (pos d)
+unfolding ceiling
+ceiling-scaled n d k z y = rw (← negℤ-*ℤ n (pos k)) (ap negℤ (floor-scaled (negℤ n) d k z y))

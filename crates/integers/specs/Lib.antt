@@ -3,5 +3,4 @@ pub mod Parts
 pub mod Laws
 pub mod Sizes
 pub mod Floor
-pub mod FloorLaws
 pub mod Locals
