@@ -13,7 +13,7 @@ use Rattle.lists.specs.declared.Step.the-variants.{Constant, One, Two, Unknown}
 use Rattle.lists.specs.Steps.{step-of, takes, leaves, follows, is-unknown, constant-in}
 use Rattle.lists.specs.Lists.{sound, cause, judgement, Expression, stepped, refused, at-end, read, answer}
 use Rattle.lists.specs.Causes.{Sound, judged-sound}
-use Rattle.lists.specs.Reached.{Reached, first, reached-within}
+use Rattle.lists.specs.Reached.{Reached, first, end-not-one, reached-within}
 use Rattle.lists.specs.Walk.{behind, walk-spent, walk-stops, walk-next, walk-end}
 use Rattle.engine.specs.declared.program.Instruction.{Instruction}
 use Rattle.engine.specs.Program.{tops, Code, instruction, no-constant, first-step, empty, added}
@@ -95,11 +95,6 @@ end-one v steps s c [] a b l e r n f = absurd (omega (arith, l))
 end-one v steps s c (t ∷ []) a b l e r n f = gives (record { steps = b; values = rw e (fits-wider v 16 a f) }) (λ w. rw (r, e) (ran-compiled w t (n .0)))
 end-one v steps s c (t ∷ u ∷ ts) a b l e r n f = absurd (omega (arith, l))
 
-end-other : (k : ℕ) (ts : List Expression) → (length ts ≡ 1 → ⊥) → at-end k ts ≡ refused 11 k
-end-other k [] h = refl
-end-other k (t ∷ []) h = absurd (h refl)
-end-other k (b ∷ a ∷ ts) h = refl
-
 module _ (v steps i : ℕ) (s : List ℕ) (c : Code) (g : Stage v steps s c (drop i s)) where
   count-is : c .count ≡ all-size (g .trees)
   count-is = ap (λ (x : Code). x .count) (g .same)
@@ -159,4 +154,4 @@ module _ (v steps i : ℕ) (s : List ℕ) (c : Code) (g : Stage v steps s c (dro
       go false e =
           refuses
           (walk-end v steps (c .count) i s (g .trees) (g .reached) h
-          ∙ end-other (c .count) (g .trees) (λ n. eqb-false d 1 e (sym ed ∙ sym stage-waiting ∙ n)))
+          ∙ end-not-one (c .count) (g .trees) (λ n. eqb-false d 1 e (sym ed ∙ sym stage-waiting ∙ n)))

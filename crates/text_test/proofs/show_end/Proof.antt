@@ -1,12 +1,12 @@
 -- `show_end` is safe. Assumes nothing.
 use Rattle.integers.specs.Locals.{plain}
-use Rattle.text_test.proofs.Signs.{Turned, turned, unturned}
+use Rattle.integers.specs.Complement.{Complement, below-complement, above-natural}
 use borrow.Author.Needs.{needs}
 use Rattle.text_test.proofs.show_end.Statement.{statement}
 use Rattle.text_test.proofs.show_end.Tie as tie
 
-below : (c : tie.Then1) → Turned (c .before .args .e)
-below c = turned (c .before .args .e) (c .before .fits .e) (rw (plain (c .before .fits .e)) at (c .if1 .taken))
+below : (c : tie.Then1) → Complement (c .before .args .e)
+below c = below-complement (c .before .args .e) (c .before .fits .e) (rw (plain (c .before .fits .e)) at (c .if1 .taken))
 
 slice-aggregate-show-bytes : tie.Need-slice-aggregate-show-bytes
 slice-aggregate-show-bytes c = search needs
@@ -30,7 +30,7 @@ returns : tie.Need-returns
 returns c = search needs
 
 cast-print-decimal-2 : tie.Need-cast-print-decimal-2
-cast-print-decimal-2 c = rw (plain (c .before .fits .e)) (unturned (c .before .args .e) (c .before .fits .e) (rw (plain (c .before .fits .e)) at (c .if1 .left)))
+cast-print-decimal-2 c = rw (plain (c .before .fits .e)) (above-natural (c .before .args .e) (c .before .fits .e) (rw (plain (c .before .fits .e)) at (c .if1 .left)))
 
 print-decimal-requires-2 : tie.Need-print-decimal-requires-2
 print-decimal-requires-2 c κs = search needs
