@@ -1,0 +1,41 @@
+-- `capi::dzb_difference` gives the answer of `arithmetic::difference`. Assumes nothing.
+use borrow.Author.Needs.{needs}
+use Rattle.capi.proofs.Shared.{made, left-same}
+use Rattle.capi.proofs.dzb_difference.Statement.{statement}
+use Rattle.capi.proofs.dzb_difference.Tie as tie
+
+new-requires : tie.Need-new-requires
+new-requires c κs = search needs
+
+new-requires-2 : tie.Need-new-requires-2
+new-requires-2 c κs = search needs
+
+rounding-requires : tie.Need-rounding-requires
+rounding-requires c κs = search needs
+
+difference-requires : tie.Need-difference-requires
+difference-requires c κs = search needs
+
+give-requires : tie.Need-give-requires
+give-requires c κs = search needs
+
+returns : tie.Need-returns
+returns c =
+    let called = c .before .before in
+    let intervals = called .before .before in
+    let start = intervals .before .before in
+    left-same
+    _
+    (c .give .ensures)
+    (rw (called .before .rounding .ensures, made (start .fits .al) (start .fits .au) (intervals .before .new .ensures), made (start .fits .bl) (start .fits .bu) (intervals .new2 .ensures)) at (called .difference .ensures))
+
+pub dzb-difference-spec : {M : Type 1} → statement M
+dzb-difference-spec =
+    tie.close
+    (tie.spec
+    new-requires
+    new-requires-2
+    rounding-requires
+    difference-requires
+    give-requires
+    returns)

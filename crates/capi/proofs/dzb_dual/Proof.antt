@@ -1,0 +1,23 @@
+-- `capi::dzb_dual` gives the answer of `arithmetic::dual`. Assumes nothing.
+use borrow.Author.Needs.{needs}
+use Rattle.capi.proofs.Shared.{made, left-same}
+use Rattle.capi.proofs.dzb_dual.Statement.{statement}
+use Rattle.capi.proofs.dzb_dual.Tie as tie
+
+new-requires : tie.Need-new-requires
+new-requires c κs = search needs
+
+dual-requires : tie.Need-dual-requires
+dual-requires c κs = search needs
+
+give-requires : tie.Need-give-requires
+give-requires c κs = search needs
+
+returns : tie.Need-returns
+returns c =
+    let called = c .before .before in
+    let start = called .before .before in
+    left-same _ (c .give .ensures) (rw (made (start .fits .lower) (start .fits .upper) (called .before .new .ensures)) at (called .dual .ensures))
+
+pub dzb-dual-spec : {M : Type 1} → statement M
+dzb-dual-spec = tie.close (tie.spec new-requires dual-requires give-requires returns)

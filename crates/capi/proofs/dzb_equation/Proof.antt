@@ -1,0 +1,45 @@
+-- `capi::dzb_equation` gives the answer of `arithmetic::equation`. Assumes nothing.
+use borrow.Author.Needs.{needs}
+use Rattle.capi.proofs.Shared.{made, left-same}
+use Rattle.capi.proofs.dzb_equation.Statement.{statement}
+use Rattle.capi.proofs.dzb_equation.Tie as tie
+
+new-requires : tie.Need-new-requires
+new-requires c κs = search needs
+
+new-requires-2 : tie.Need-new-requires-2
+new-requires-2 c κs = search needs
+
+new-requires-3 : tie.Need-new-requires-3
+new-requires-3 c κs = search needs
+
+rounding-requires : tie.Need-rounding-requires
+rounding-requires c κs = search needs
+
+equation-requires : tie.Need-equation-requires
+equation-requires c κs = search needs
+
+give-requires : tie.Need-give-requires
+give-requires c κs = search needs
+
+returns : tie.Need-returns
+returns c =
+    let called = c .before .before in
+    let intervals = called .before .before in
+    let start = intervals .before .before .before in
+    left-same
+    _
+    (c .give .ensures)
+    (rw (called .before .rounding .ensures, made (start .fits .al) (start .fits .au) (intervals .before .before .new .ensures), made (start .fits .cl) (start .fits .cu) (intervals .before .new2 .ensures), made (start .fits .bl) (start .fits .bu) (intervals .new3 .ensures)) at (called .equation .ensures))
+
+pub dzb-equation-spec : {M : Type 1} → statement M
+dzb-equation-spec =
+    tie.close
+    (tie.spec
+    new-requires
+    new-requires-2
+    new-requires-3
+    rounding-requires
+    equation-requires
+    give-requires
+    returns)

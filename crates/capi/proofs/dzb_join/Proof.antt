@@ -1,0 +1,30 @@
+-- `capi::dzb_join` gives the answer of `arithmetic::join`. Assumes nothing.
+use borrow.Author.Needs.{needs}
+use Rattle.capi.proofs.Shared.{made, left-same}
+use Rattle.capi.proofs.dzb_join.Statement.{statement}
+use Rattle.capi.proofs.dzb_join.Tie as tie
+
+new-requires : tie.Need-new-requires
+new-requires c κs = search needs
+
+new-requires-2 : tie.Need-new-requires-2
+new-requires-2 c κs = search needs
+
+join-requires : tie.Need-join-requires
+join-requires c κs = search needs
+
+give-requires : tie.Need-give-requires
+give-requires c κs = search needs
+
+returns : tie.Need-returns
+returns c =
+    let called = c .before .before in
+    let start = called .before .before .before in
+    left-same
+    _
+    (c .give .ensures)
+    (rw (made (start .fits .al) (start .fits .au) (called .before .before .new .ensures), made (start .fits .bl) (start .fits .bu) (called .before .new2 .ensures)) at (called .join .ensures))
+
+pub dzb-join-spec : {M : Type 1} → statement M
+dzb-join-spec =
+    tie.close (tie.spec new-requires new-requires-2 join-requires give-requires returns)

@@ -1,0 +1,30 @@
+-- `capi::dzb_meet` gives the answer of `arithmetic::meet`. Assumes nothing.
+use borrow.Author.Needs.{needs}
+use Rattle.capi.proofs.Shared.{made, left-same}
+use Rattle.capi.proofs.dzb_meet.Statement.{statement}
+use Rattle.capi.proofs.dzb_meet.Tie as tie
+
+new-requires : tie.Need-new-requires
+new-requires c κs = search needs
+
+new-requires-2 : tie.Need-new-requires-2
+new-requires-2 c κs = search needs
+
+meet-requires : tie.Need-meet-requires
+meet-requires c κs = search needs
+
+give-requires : tie.Need-give-requires
+give-requires c κs = search needs
+
+returns : tie.Need-returns
+returns c =
+    let called = c .before .before in
+    let start = called .before .before .before in
+    left-same
+    _
+    (c .give .ensures)
+    (rw (made (start .fits .al) (start .fits .au) (called .before .before .new .ensures), made (start .fits .bl) (start .fits .bu) (called .before .new2 .ensures)) at (called .meet .ensures))
+
+pub dzb-meet-spec : {M : Type 1} → statement M
+dzb-meet-spec =
+    tie.close (tie.spec new-requires new-requires-2 meet-requires give-requires returns)

@@ -1,0 +1,161 @@
+// The library as C functions, for programs in C or Rust to link (include/donzibrau.h). Every function takes any numbers and any bytes: what a call
+// leaves, refusals included, is defined once, in specs/Call.antt.
+ghost use mathlib.Core.Path.{_≡_};
+ghost use Rattle.directed.specs.Thousandths.{interval};
+ghost use Rattle.directed.specs.Answer as answer;
+ghost use Rattle.directed.specs.Answer.{outcome};
+ghost use Rattle.directed.specs.Equation as meaning;
+ghost use Rattle.capi.specs.Call.{way, left, left-by};
+use directed::Answer;
+use directed::Interval;
+use directed::Rounding;
+
+fn rounding(inward: bool) -> Rounding
+    ensures { λ r. ⌜ r ≡ way inward ⌝ }
+{
+    if inward {
+        Rounding::Inward
+    } else {
+        Rounding::Outward
+    }
+}
+
+// A value goes to the lent ends; a refusal leaves them as they are.
+fn give(answer: Answer, result: &mut [i32; 2]) -> u32
+    ensures { λ r. ⌜ left r (now (result .exit)) ≡ left-by (outcome answer) (now (result .entry)) ⌝ }
+{
+    match answer {
+        Answer::Value(a) => {
+            let lower = a.lower;
+            let upper = a.upper;
+            *result = [lower, upper];
+            0
+        }
+        Answer::Refused(cause) => cause.number() as u32,
+    }
+}
+
+// ---- the operations and the equation: causes 2, 5, 4. The ends of a are al and au, those of b and c named likewise.
+
+#[no_mangle]
+pub extern "C" fn dzb_negation(lower: i32, upper: i32, result: &mut [i32; 2]) -> u32
+    ensures { λ r. ⌜ left r (now (result .exit)) ≡ left-by (answer.negation (interval lower upper)) (now (result .entry)) ⌝ }
+{
+    give(arithmetic::negation(Interval::new(lower, upper)), result)
+}
+
+#[no_mangle]
+pub extern "C" fn dzb_opposite(lower: i32, upper: i32, result: &mut [i32; 2]) -> u32
+    ensures { λ r. ⌜ left r (now (result .exit)) ≡ left-by (answer.opposite (interval lower upper)) (now (result .entry)) ⌝ }
+{
+    give(arithmetic::opposite(Interval::new(lower, upper)), result)
+}
+
+#[no_mangle]
+pub extern "C" fn dzb_dual(lower: i32, upper: i32, result: &mut [i32; 2]) -> u32
+    ensures { λ r. ⌜ left r (now (result .exit)) ≡ left-by (answer.dual (interval lower upper)) (now (result .entry)) ⌝ }
+{
+    give(arithmetic::dual(Interval::new(lower, upper)), result)
+}
+
+#[no_mangle]
+pub extern "C" fn dzb_join(al: i32, au: i32, bl: i32, bu: i32, result: &mut [i32; 2]) -> u32
+    ensures { λ r. ⌜ left r (now (result .exit)) ≡ left-by (answer.join (interval al au) (interval bl bu)) (now (result .entry)) ⌝ }
+{
+    let a = Interval::new(al, au);
+    let b = Interval::new(bl, bu);
+    give(arithmetic::join(a, b), result)
+}
+
+#[no_mangle]
+pub extern "C" fn dzb_meet(al: i32, au: i32, bl: i32, bu: i32, result: &mut [i32; 2]) -> u32
+    ensures { λ r. ⌜ left r (now (result .exit)) ≡ left-by (answer.meet (interval al au) (interval bl bu)) (now (result .entry)) ⌝ }
+{
+    let a = Interval::new(al, au);
+    let b = Interval::new(bl, bu);
+    give(arithmetic::meet(a, b), result)
+}
+
+#[no_mangle]
+pub extern "C" fn dzb_sum(
+    al: i32,
+    au: i32,
+    bl: i32,
+    bu: i32,
+    inward: bool,
+    result: &mut [i32; 2],
+) -> u32
+    ensures { λ r. ⌜ left r (now (result .exit)) ≡ left-by (answer.sum (way inward) (interval al au) (interval bl bu)) (now (result .entry)) ⌝ }
+{
+    let a = Interval::new(al, au);
+    let b = Interval::new(bl, bu);
+    give(arithmetic::sum(a, b, rounding(inward)), result)
+}
+
+#[no_mangle]
+pub extern "C" fn dzb_difference(
+    al: i32,
+    au: i32,
+    bl: i32,
+    bu: i32,
+    inward: bool,
+    result: &mut [i32; 2],
+) -> u32
+    ensures { λ r. ⌜ left r (now (result .exit)) ≡ left-by (answer.difference (way inward) (interval al au) (interval bl bu)) (now (result .entry)) ⌝ }
+{
+    let a = Interval::new(al, au);
+    let b = Interval::new(bl, bu);
+    give(arithmetic::difference(a, b, rounding(inward)), result)
+}
+
+#[no_mangle]
+pub extern "C" fn dzb_product(
+    al: i32,
+    au: i32,
+    bl: i32,
+    bu: i32,
+    inward: bool,
+    result: &mut [i32; 2],
+) -> u32
+    ensures { λ r. ⌜ left r (now (result .exit)) ≡ left-by (answer.product (way inward) (interval al au) (interval bl bu)) (now (result .entry)) ⌝ }
+{
+    let a = Interval::new(al, au);
+    let b = Interval::new(bl, bu);
+    give(arithmetic::product(a, b, rounding(inward)), result)
+}
+
+#[no_mangle]
+pub extern "C" fn dzb_quotient(
+    al: i32,
+    au: i32,
+    bl: i32,
+    bu: i32,
+    inward: bool,
+    result: &mut [i32; 2],
+) -> u32
+    ensures { λ r. ⌜ left r (now (result .exit)) ≡ left-by (answer.quotient (way inward) (interval al au) (interval bl bu)) (now (result .entry)) ⌝ }
+{
+    let a = Interval::new(al, au);
+    let b = Interval::new(bl, bu);
+    give(arithmetic::quotient(a, b, rounding(inward)), result)
+}
+
+// The x of a + c × x = b.
+#[no_mangle]
+pub extern "C" fn dzb_equation(
+    al: i32,
+    au: i32,
+    cl: i32,
+    cu: i32,
+    bl: i32,
+    bu: i32,
+    inward: bool,
+    result: &mut [i32; 2],
+) -> u32
+    ensures { λ r. ⌜ left r (now (result .exit)) ≡ left-by (meaning.equation (way inward) (interval al au) (interval cl cu) (interval bl bu)) (now (result .entry)) ⌝ }
+{
+    let a = Interval::new(al, au);
+    let c = Interval::new(cl, cu);
+    let b = Interval::new(bl, bu);
+    give(arithmetic::equation(a, c, b, rounding(inward)), result)
+}
