@@ -9,7 +9,8 @@ use mir.Facts.{toZ-ofZ}
 use Rattle.directed.specs.declared.Interval.{Interval}
 use Rattle.directed.specs.Thousandths.{interval}
 use Rattle.directed.specs.Answer.{Outcome, value, refusal}
-use Rattle.capi.specs.Call.{Left, left, left-by}
+use Rattle.text.specs.Answer.{Told, length-told, refusal-told, Writing}
+use Rattle.capi.specs.Call.{Left, left, left-by, LeftLength, left-length, left-length-by, left-writing, left-writing-by}
 
 -- an interval made of two numbers that are given
 pub made : {a : Interval} {l u : ℤ} → SFits w32 l → SFits w32 u → a ≡ interval (toZ w32 (ofZ w32 l)) (toZ w32 (ofZ w32 u)) → a ≡ interval l u
@@ -26,3 +27,16 @@ module _ (before : List ℤ) {o : Outcome} where
 
   pub left-same : {p : Outcome} {l : Left} → l ≡ left-by o before → o ≡ p → l ≡ left-by p before
   left-same given same = rw same at given
+
+module _ (before : ℕ) {t : Told} where
+  pub left-length-told : {n : ℕ} → t ≡ length-told n → left-length 0 n ≡ left-length-by t before
+  unfolding left-length-by
+  left-length-told p = rw p
+
+  pub left-length-refusal : {k n : ℕ} → t ≡ refusal-told k → n ≡ k → left-length n before ≡ left-length-by t before
+  unfolding left-length-by
+  left-length-refusal p q = rw (p, q)
+
+  pub left-writing-same : {n l : ℕ} {d : List ℕ} {w : Writing} → left-length n l ≡ left-length-by t before → record { answer = t; buffer = d } ≡ w → left-writing n l d ≡ left-writing-by w before
+  unfolding left-writing-by
+  left-writing-same p q = rw (← q, p)

@@ -5,10 +5,12 @@ ghost use Rattle.directed.specs.Thousandths.{interval};
 ghost use Rattle.directed.specs.Answer as answer;
 ghost use Rattle.directed.specs.Answer.{outcome};
 ghost use Rattle.directed.specs.Equation as meaning;
-ghost use Rattle.capi.specs.Call.{way, left, left-by};
+ghost use Rattle.text.specs.Answer.{told, read, write};
+ghost use Rattle.capi.specs.Call.{way, left, left-by, left-length, left-length-by, left-writing, left-writing-by};
 use directed::Answer;
 use directed::Interval;
 use directed::Rounding;
+use text::Written;
 
 fn rounding(inward: bool) -> Rounding
     ensures { λ r. ⌜ r ≡ way inward ⌝ }
@@ -158,4 +160,35 @@ pub extern "C" fn dzb_equation(
     let c = Interval::new(cl, cu);
     let b = Interval::new(bl, bu);
     give(arithmetic::equation(a, c, b, rounding(inward)), result)
+}
+
+// ---- the text of a pair
+
+// Causes 1, 2.
+#[no_mangle]
+pub extern "C" fn dzb_read(bytes: &[u8], result: &mut [i32; 2]) -> u32
+    ensures { λ r. ⌜ left r (now (result .exit)) ≡ left-by (read (now (bytes .entry))) (now (result .entry)) ⌝ }
+{
+    give(text::read(bytes), result)
+}
+
+fn give_length(answer: Written, length: &mut usize) -> u32
+    ensures { λ r. ⌜ left-length r (now (length .exit)) ≡ left-length-by (told answer) (now (length .entry)) ⌝ }
+{
+    match answer {
+        Written::Length(n) => {
+            *length = n;
+            0
+        }
+        Written::Refused(cause) => cause.number() as u32,
+    }
+}
+
+// Causes 2, 3.
+#[no_mangle]
+pub extern "C" fn dzb_write(lower: i32, upper: i32, buffer: &mut [u8], length: &mut usize) -> u32
+    ensures { λ r. ⌜ left-writing r (now (length .exit)) (now (buffer .exit)) ≡ left-writing-by (write (interval lower upper) (now (buffer .entry))) (now (length .entry)) ⌝ }
+{
+    let answer = text::write(Interval::new(lower, upper), buffer);
+    give_length(answer, length)
 }

@@ -1,0 +1,30 @@
+-- `capi::dzb_write` gives the answer of `text::write`, which has filled the lent buffer. Assumes nothing.
+use borrow.Author.Needs.{needs}
+use Rattle.capi.proofs.Shared.{made, left-writing-same}
+use Rattle.capi.proofs.dzb_write.Statement.{statement}
+use Rattle.capi.proofs.dzb_write.Tie as tie
+
+new-requires : tie.Need-new-requires
+new-requires c κs = search needs
+
+write-requires : tie.Need-write-requires
+write-requires c κs = search needs
+
+give-length-requires : tie.Need-give-length-requires
+give-length-requires c κs = search needs
+
+same-length : tie.Need-same-length
+same-length c = search needs
+
+returns : tie.Need-returns
+returns c =
+    let written = c .before .before .before .before in
+    let start = written .before .before .before .before in
+    left-writing-same
+    _
+    (c .give-length .ensures)
+    (rw (made (start .fits .lower) (start .fits .upper) (written .before .before .new .ensures)) at (written .write .ensures))
+
+pub dzb-write-spec : {M : Type 1} → statement M
+dzb-write-spec =
+    tie.close (tie.spec new-requires write-requires give-length-requires same-length returns)

@@ -1,0 +1,30 @@
+-- `capi::give_length` meets its contract. Assumes nothing.
+use borrow.Author.Needs.{needs}
+use mathlib.Core.Path.{ap}
+use Rattle.text.specs.Answer.{told}
+use Rattle.capi.proofs.Shared.{left-length-told, left-length-refusal}
+use Rattle.capi.proofs.give_length.Statement.{statement}
+use Rattle.capi.proofs.give_length.Tie as tie
+
+enum-known-answer : tie.Need-enum-known-answer
+enum-known-answer c = search needs
+
+enum-known-answer-2 : tie.Need-enum-known-answer-2
+enum-known-answer-2 c = search needs
+
+number-requires : tie.Need-number-requires
+number-requires c κs = search needs
+
+cast-result : tie.Need-cast-result
+cast-result c = search needs
+
+returns : tie.Need-returns
+returns c = left-length-told _ (ap told (c .before .answer .given .1))
+
+returns-2 : tie.Need-returns-2
+returns-2 c = left-length-refusal _ (ap told (c .before .before .answer2 .given .1)) (c .number .ensures)
+
+pub give-length-spec : {M : Type 1} → statement M
+give-length-spec =
+    tie.close
+    (tie.spec enum-known-answer enum-known-answer-2 number-requires cast-result returns returns-2)
