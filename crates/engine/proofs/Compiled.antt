@@ -1,0 +1,228 @@
+-- The program of an expression, and of those that wait; and what its run gives. Assumes nothing.
+use mathlib.Core.Path.{_≡_, refl, sym, ap, _∙_}
+use mathlib.Core.Bool.{Bool, true, false, not}
+use mathlib.Core.List.{List, [], _∷_, _++_, append-assoc, append-nil}
+use Prim.Native.Nat.{ℕ, zero, suc, _+_, _-_, _≤_, _<_}
+use native.Mathlib.Omega.{arith}
+use native.Mathlib.Numerals.{add-one}
+use lib.ListN.{length, drop, length-append}
+use Rattle.directed.specs.declared.Interval.{Interval}
+use Rattle.directed.specs.declared.Rounding.{Rounding}
+use Rattle.directed.specs.declared.Rounding.the-variants.{Outward, Inward}
+use Rattle.directed.specs.Choice.{if_then_else_}
+use Rattle.lists.specs.declared.Unary.{Unary}
+use Rattle.lists.specs.declared.Unary.the-variants.{Negation, Opposite, Dual}
+use Rattle.lists.specs.declared.Binary.{Binary}
+use Rattle.lists.specs.declared.Step.{Step}
+use Rattle.lists.specs.declared.Step.the-variants.{Constant, One, Two, Unknown}
+use Rattle.lists.specs.Steps.{takes, is-unknown, constant-in}
+use Rattle.lists.specs.Lists.{Result, value, refusal, Expression, constant, one, two, stepped, other, under, unary, binary, at, after, evaluated}
+use Rattle.engine.specs.declared.program.Instruction.{Instruction}
+use Rattle.engine.specs.Program.{Code, code, instruction, no-constant, turning, turned-at, added}
+use Rattle.engine.specs.Machine.{way-after, ran, Fits, end, step}
+
+-- ---- the program of an expression
+unfoldable pub size : Expression → ℕ
+size (constant k p) = 1
+size (one k f a) = size a + 1
+size (two k g a b) = size a + (size b + 1)
+
+unfoldable pub flat : Expression → List Instruction
+flat (constant k p) = instruction Constant p ∷ []
+flat (one k f a) = flat a ++ (instruction (One f) no-constant ∷ [])
+flat (two k g a b) = flat a ++ (flat b ++ (instruction (Two g) no-constant ∷ []))
+
+abbrev turn-first : List Bool → List Bool
+turn-first [] = []
+turn-first (m ∷ ms) = not m ∷ ms
+
+unfoldable pub turns : Expression → List Bool
+turns (constant k p) = false ∷ []
+turns (one k f a) = (if turning f then turn-first (turns a) else turns a) ++ (turning f ∷ [])
+turns (two k g a b) = turns a ++ (turns b ++ (false ∷ []))
+
+-- ---- of those that wait, the latest first
+abbrev pub all-size : List Expression → ℕ
+all-size [] = 0
+all-size (t ∷ ts) = all-size ts + size t
+
+abbrev pub all-flat : List Expression → List Instruction
+all-flat [] = []
+all-flat (t ∷ ts) = all-flat ts ++ flat t
+
+abbrev pub all-turns : List Expression → List Bool
+all-turns [] = []
+all-turns (t ∷ ts) = all-turns ts ++ turns t
+
+abbrev pub all-starts : List Expression → List ℕ
+all-starts [] = []
+all-starts (t ∷ ts) = all-size ts ∷ all-starts ts
+
+abbrev pub compiled : List Expression → Code
+compiled ts = code (all-size ts) (all-flat ts) (all-turns ts) (all-starts ts)
+
+pub starts-length : (ts : List Expression) → length (all-starts ts) ≡ length ts
+starts-length [] = refl
+starts-length (t ∷ ts) = ap suc (starts-length ts)
+
+turn-first-length : (ms : List Bool) → length (turn-first ms) ≡ length ms
+turn-first-length [] = refl
+turn-first-length (m ∷ ms) = refl
+
+turn-length : (f : Unary) (ms : List Bool) → length (if turning f then turn-first ms else ms) ≡ length ms
+turn-length Negation ms = refl
+turn-length Opposite ms = turn-first-length ms
+turn-length Dual ms = turn-first-length ms
+
+turns-length : (t : Expression) → length (turns t) ≡ size t
+unfolding turns size
+turns-length (constant k p) = refl
+turns-length (one k f a) = simp length-append (omega (arith, turn-length f (turns a), turns-length a))
+turns-length (two k g a b) = simp length-append (omega (arith, turns-length a, turns-length b))
+
+all-turns-length : (ts : List Expression) → length (all-turns ts) ≡ all-size ts
+all-turns-length [] = refl
+all-turns-length (t ∷ ts) = simp length-append (omega (arith, all-turns-length ts, turns-length t))
+
+pub size-above : (t : Expression) → 1 ≤ size t
+unfolding size
+size-above (constant k p) = omega arith
+size-above (one k f a) = omega arith
+size-above (two k g a b) = omega arith
+
+-- ---- a step more
+turned-seam : (xs ys : List Bool) → turned-at (length xs) (xs ++ ys) ≡ xs ++ turn-first ys
+turned-seam [] [] = refl
+turned-seam [] (y ∷ ys) = refl
+turned-seam (x ∷ xs) ys = ap (λ l. x ∷ l) (turned-seam xs ys)
+
+turned-all : (ts : List Expression) (ys : List Bool) → turned-at (all-size ts) (all-turns ts ++ ys) ≡ all-turns ts ++ turn-first ys
+turned-all ts ys = rw (← all-turns-length ts) (turned-seam (all-turns ts) ys)
+
+pub added-compiled : (k : ℕ) (s : Step) (r : List ℕ) (ts : List Expression) → is-unknown s ≡ false → takes s ≤ length ts
+    → added s (constant-in r) (compiled ts) ≡ compiled (stepped k s r ts)
+unfolding size flat turns
+added-compiled k Constant r ts u h = refl
+added-compiled k (One f) r [] u h = absurd (omega arith)
+added-compiled k (One Negation) r (a ∷ ts) u h =
+    let e : all-size ts + size a + 1 ≡ all-size ts + (size a + 1) = omega arith in
+    rw (e, append-assoc (all-flat ts) (flat a), append-assoc (all-turns ts) (turns a))
+added-compiled k (One Opposite) r (a ∷ ts) u h =
+    let e : all-size ts + size a + 1 ≡ all-size ts + (size a + 1) = omega arith in
+    rw (e, append-assoc (all-flat ts) (flat a), turned-all ts (turns a), append-assoc (all-turns ts) (turn-first (turns a)))
+added-compiled k (One Dual) r (a ∷ ts) u h =
+    let e : all-size ts + size a + 1 ≡ all-size ts + (size a + 1) = omega arith in
+    rw (e, append-assoc (all-flat ts) (flat a), turned-all ts (turns a), append-assoc (all-turns ts) (turn-first (turns a)))
+added-compiled k (Two g) r [] u h = absurd (omega arith)
+added-compiled k (Two g) r (b ∷ []) u h = absurd (omega arith)
+added-compiled k (Two g) r (b ∷ a ∷ ts) u h =
+    let e : all-size ts + size a + size b + 1 ≡ all-size ts + (size a + (size b + 1)) = omega arith in
+    rw e (simp append-assoc)
+added-compiled k Unknown r ts u h = let z : _≡_ {A = ℕ} 0 1 = cc in absurd (omega arith)
+
+-- ---- the steps' numbers
+abbrev pub Numbered : ℕ → Expression → Type 0
+Numbered n (constant k p) = k ≡ n
+Numbered n (one k f a) = Numbered n a × (k ≡ n + size a)
+Numbered n (two k g a b) = Numbered n a × Numbered (n + size a) b × (k ≡ n + size a + size b)
+
+abbrev pub AllNumbered : List Expression → Type 0
+AllNumbered [] = Unit {0}
+AllNumbered (t ∷ ts) = Numbered (all-size ts) t × AllNumbered ts
+
+pub numbered-stepped : (k : ℕ) (s : Step) (r : List ℕ) (ts : List Expression) → k ≡ all-size ts → is-unknown s ≡ false → takes s ≤ length ts
+    → AllNumbered ts → AllNumbered (stepped k s r ts)
+numbered-stepped k Constant r ts e u h n = (e, n)
+numbered-stepped k (One f) r [] e u h n = absurd (omega arith)
+numbered-stepped k (One f) r (a ∷ ts) e u h n = ((n .0, e), n .1)
+numbered-stepped k (Two g) r [] e u h n = absurd (omega arith)
+numbered-stepped k (Two g) r (b ∷ []) e u h n = absurd (omega arith)
+numbered-stepped k (Two g) r (b ∷ a ∷ ts) e u h n = ((n .1 .0, n .0, e), n .1 .1)
+numbered-stepped k Unknown r ts e u h n = let z : _≡_ {A = ℕ} 0 1 = cc in absurd (omega arith)
+
+-- ---- a step more fits
+pub fits-more : (v d e : ℕ) (is : List Instruction) (i : Instruction) → Fits v d is e → takes (i .step) ≤ e → e - takes (i .step) + 1 ≤ v
+    → Fits v d (is ++ (i ∷ [])) (e - takes (i .step) + 1)
+fits-more v d e [] i end h k = step h k end
+fits-more v d e (j ∷ is) i (step a b f) h k = step a b (fits-more v _ e is i f h k)
+
+-- ---- the run of an expression's program is its value
+way-not : (m : Bool) (w : Rounding) → way-after (not m) w ≡ way-after m (other w)
+way-not true Outward = refl
+way-not true Inward = refl
+way-not false w = refl
+
+ran-turn : (k : ℕ) (w : Rounding) (is : List Instruction) (ms : List Bool) (xs : List Interval) → ran k w is (turn-first ms) xs ≡ ran k (other w) is ms xs
+unfolding ran
+ran-turn k w [] ms xs = refl
+ran-turn k w (i ∷ is) [] xs = refl
+ran-turn k w (i ∷ is) (m ∷ ms) xs = rw (way-not m w)
+
+turn-first-append : (xs ys : List Bool) → 1 ≤ length xs → turn-first xs ++ ys ≡ turn-first (xs ++ ys)
+turn-first-append [] ys h = absurd (omega arith)
+turn-first-append (x ∷ xs) ys h = refl
+
+ran-under : (k : ℕ) (f : Unary) (w : Rounding) (a : Expression) (is : List Instruction) (ms : List Bool) (xs : List Interval)
+    → ran k w is ((if turning f then turn-first (turns a) else turns a) ++ ms) xs ≡ ran k (under f w) is (turns a ++ ms) xs
+ran-under k Negation w a is ms xs = refl
+ran-under k Opposite w a is ms xs = rw (turn-first-append (turns a) ms (omega (arith, turns-length a, size-above a))) (ran-turn k w is (turns a ++ ms) xs)
+ran-under k Dual w a is ms xs = rw (turn-first-append (turns a) ms (omega (arith, turns-length a, size-above a))) (ran-turn k w is (turns a ++ ms) xs)
+
+under-back : (f : Unary) (w : Rounding) → way-after (turning f) (under f w) ≡ w
+under-back Negation w = refl
+under-back Opposite Outward = refl
+under-back Opposite Inward = refl
+under-back Dual Outward = refl
+under-back Dual Inward = refl
+
+after-cong : (r : Result) (f g : Interval → Result) → ((x : Interval) → f x ≡ g x) → after r f ≡ after r g
+after-cong (value x) f g e = e x
+after-cong (refusal n k) f g e = refl
+
+after-value : (r : Result) → after r (λ x. value x) ≡ r
+after-value (value x) = refl
+after-value (refusal n k) = refl
+
+ran-constant : (k : ℕ) (w : Rounding) (p : Interval) (is : List Instruction) (ms : List Bool) (xs : List Interval)
+    → ran k w (instruction Constant p ∷ is) (false ∷ ms) xs ≡ ran (k + 1) w is ms (p ∷ xs)
+unfolding ran
+ran-constant k w p is ms xs = rw add-one
+
+ran-one : (k j l : ℕ) (f : Unary) (w : Rounding) (is : List Instruction) (ms : List Bool) (xs : List Interval) (r : Result) → j ≡ k → suc k ≡ l
+    → after r (λ x. ran k (under f w) (instruction (One f) no-constant ∷ is) (turning f ∷ ms) (x ∷ xs)) ≡ after (after r λ x. at j (unary f x)) (λ z. ran l w is ms (z ∷ xs))
+unfolding ran
+ran-one k j l f w is ms xs (value x) e h = rw (under-back f w, e, ← h)
+ran-one k j l f w is ms xs (refusal n i) e h = refl
+
+ran-two : (k j l : ℕ) (g : Binary) (w : Rounding) (is : List Instruction) (ms : List Bool) (xs : List Interval) (r q : Result) → j ≡ k → suc k ≡ l
+    → after r (λ x. after q λ y. ran k w (instruction (Two g) no-constant ∷ is) (false ∷ ms) (y ∷ x ∷ xs))
+    ≡ after (after r λ x. after q λ y. at j (binary w g x y)) (λ z. ran l w is ms (z ∷ xs))
+unfolding ran
+ran-two k j l g w is ms xs (value x) (value y) e h = rw (e, ← h)
+ran-two k j l g w is ms xs (value x) (refusal n i) e h = refl
+ran-two k j l g w is ms xs (refusal n i) q e h = refl
+
+ran-flat : (k : ℕ) (w : Rounding) (t : Expression) (is : List Instruction) (ms : List Bool) (xs : List Interval) → Numbered k t
+    → ran k w (flat t ++ is) (turns t ++ ms) xs ≡ after (evaluated w t) λ z. ran (k + size t) w is ms (z ∷ xs)
+unfolding flat turns size evaluated
+ran-flat k w (constant j p) is ms xs n = ran-constant k w p is ms xs
+ran-flat k w (one j f a) is ms xs n =
+    rw (append-assoc (flat a) (instruction (One f) no-constant ∷ []) is, append-assoc (if turning f then turn-first (turns a) else turns a) (turning f ∷ []) ms)
+    (ran-under k f w a _ _ xs
+    ∙ ran-flat k (under f w) a (instruction (One f) no-constant ∷ is) (turning f ∷ ms) xs (n .0)
+    ∙ ran-one (k + size a) j (k + (size a + 1)) f w is ms xs (evaluated (under f w) a) (n .1) (omega arith))
+ran-flat k w (two j g a b) is ms xs n =
+    let i = instruction (Two g) no-constant in
+    rw (
+      append-assoc (flat a) (flat b ++ (i ∷ [])) is,
+      append-assoc (flat b) (i ∷ []) is,
+      append-assoc (turns a) (turns b ++ (false ∷ [])) ms,
+      append-assoc (turns b) (false ∷ []) ms,
+    )
+    (ran-flat k w a (flat b ++ (i ∷ is)) (turns b ++ (false ∷ ms)) xs (n .0)
+    ∙ after-cong (evaluated w a) _ _ (λ x. ran-flat (k + size a) w b (i ∷ is) (false ∷ ms) (x ∷ xs) (n .1))
+    ∙ ran-two (k + size a + size b) j (k + (size a + (size b + 1))) g w is ms xs (evaluated w a) (evaluated w b) (n .2) (omega arith))
+
+pub ran-compiled : (w : Rounding) (t : Expression) → Numbered 0 t → ran 0 w (flat t) (turns t) [] ≡ evaluated w t
+unfolding ran
+ran-compiled w t n = rw (← append-nil (flat t), ← append-nil (turns t)) (ran-flat 0 w t [] [] [] n ∙ after-value (evaluated w t))

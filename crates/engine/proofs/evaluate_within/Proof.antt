@@ -1,0 +1,46 @@
+-- A refusal is the one that reading comes to, and a program gives the list's answer. Assumes nothing.
+use mathlib.Core.Path.{_≡_, sym, _∙_}
+use mathlib.Core.List.{List, []}
+use Prim.Native.Nat.{ℕ}
+use Rattle.directed.specs.declared.Rounding.{Rounding}
+use Rattle.lists.specs.Lists.{sound, cause, refusal, answer}
+use Rattle.engine.specs.Program.{Code}
+use Rattle.engine.specs.Machine.{ran}
+use Rattle.engine.specs.Decode.{Decodes, refuses, gives, Runs}
+use borrow.Author.Needs.{needs}
+use Rattle.engine.proofs.evaluate_within.Statement.{statement}
+use Rattle.engine.proofs.evaluate_within.Tie as tie
+
+sound-runs : {v steps : ℕ} {s : List ℕ} {c : Code} → Decodes v steps s sound c → Runs c
+sound-runs (gives r e) = r
+
+sound-answers : {v steps : ℕ} {s : List ℕ} {c : Code} → Decodes v steps s sound c → (w : Rounding)
+    → ran 0 w (c .instructions) (c .turns) [] ≡ answer v steps w s
+sound-answers (gives r e) w = e w
+
+cause-answers : {v steps n : ℕ} {s : List ℕ} {c : Code} → Decodes v steps s (cause n) c → (w : Rounding) → refusal n (c .count) ≡ answer v steps w s
+unfolding answer
+cause-answers (refuses e) w = rw e
+
+decode-requires : tie.Need-decode-requires
+decode-requires c κs = search needs
+
+enum-told : tie.Need-enum-told
+enum-told c = search needs
+
+run-requires : tie.Need-run-requires
+run-requires c κs = sound-runs (rw (c .enum-told .given .1) at (c .before .before .before .decode .ensures))
+
+enum-known-verdict : tie.Need-enum-known-verdict
+enum-known-verdict c = search needs
+
+returns : tie.Need-returns
+returns c = c .run .ensures ∙ sound-answers (rw (c .before .enum-told .given .1) at (c .before .before .before .before .decode .ensures)) _
+
+returns-2 : tie.Need-returns-2
+returns-2 c = cause-answers (rw (c .before .verdict .given .1) at (c .before .before .before .before .decode .ensures)) _
+
+pub evaluate-within-spec : {M : Type 1} → statement M
+evaluate-within-spec =
+    tie.close
+    (tie.spec decode-requires enum-told run-requires enum-known-verdict returns returns-2)

@@ -1,0 +1,46 @@
+-- What a program's run gives: each step once, in order, in the way that has turned so far. Assumes nothing.
+use mathlib.Core.Bool.{Bool}
+use mathlib.Core.List.{List, [], _∷_}
+use Prim.Native.Nat.{ℕ, suc, _+_, _-_, _≤_}
+use lib.ListN.{drop, getD}
+use Rattle.directed.specs.declared.Interval.{Interval}
+use Rattle.directed.specs.declared.Rounding.{Rounding}
+use Rattle.directed.specs.Choice.{if_then_else_}
+use Rattle.directed.specs.Answer as answers
+use Rattle.lists.specs.declared.Step.{Step}
+use Rattle.lists.specs.declared.Step.the-variants.{Constant, One, Two, Unknown}
+use Rattle.lists.specs.Steps.{takes}
+use Rattle.lists.specs.Lists.{Result, value, other, unary, binary, at, after}
+use Rattle.engine.specs.declared.program.Instruction.{Instruction}
+use Rattle.engine.specs.declared.machine.Stack.{Stack}
+use Rattle.engine.specs.Program.{tops, no-constant}
+
+abbrev pub values-of : Stack → List Interval
+values-of st = tops no-constant (st .depth) (st .items)
+
+-- a step on the values that wait, the latest first
+abbrev pub step-outcome : Rounding → Step → Interval → List Interval → answers.Outcome
+step-outcome w Constant p xs = answers.value p
+step-outcome w (One f) p [] = answers.value p
+step-outcome w (One f) p (x ∷ xs) = unary f x
+step-outcome w (Two g) p [] = answers.value p
+step-outcome w (Two g) p (y ∷ []) = answers.value p
+step-outcome w (Two g) p (y ∷ x ∷ xs) = binary w g x y
+step-outcome w Unknown p xs = answers.value p
+
+abbrev pub way-after : Bool → Rounding → Rounding
+way-after m w = if m then other w else w
+
+-- from step k on
+unfoldable pub ran : ℕ → Rounding → List Instruction → List Bool → List Interval → Result
+ran k w [] ms xs = value (getD xs 0 no-constant)
+ran k w (i ∷ is) [] xs = value (getD xs 0 no-constant)
+ran k w (i ∷ is) (m ∷ ms) xs =
+    after (at k (step-outcome (way-after m w) (i .step) (i .constant) xs))
+    λ z. ran (suc k) (way-after m w) is ms (z ∷ drop (takes (i .step)) xs)
+
+-- From depth d on no step lacks a value, at most v values wait, and e are left.
+pub data Fits (v : ℕ) : ℕ → List Instruction → ℕ → Type 0 where
+  end : {d : ℕ} → Fits v d [] d
+  step : {d e : ℕ} {i : Instruction} {is : List Instruction} → takes (i .step) ≤ d → d - takes (i .step) + 1 ≤ v → Fits v (d - takes (i .step) + 1) is e
+      → Fits v d (i ∷ is) e

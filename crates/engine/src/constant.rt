@@ -1,0 +1,41 @@
+// A constant's 8 bytes: two 32-bit ends in two's complement, low byte first.
+ghost use mathlib.Core.Path.{_≡_};
+ghost use Prim.Native.Nat.{_+_, _≤_};
+ghost use lib.ListN.{length};
+ghost use mir.Syntax.{w32};
+ghost use mir.Val.{toZ};
+ghost use Rattle.lists.specs.Steps.{word, word-at, constant-in};
+use directed::Interval;
+
+fn word_of(a: u8, b: u8, c: u8, d: u8) -> u32
+    ensures { λ r. ⌜ r ≡ word a b c d ⌝ }
+{
+    a as u32 + b as u32 * 256 + c as u32 * 65536 + d as u32 * 16777216
+}
+
+fn signed_of(x: u32) -> i32
+    ensures { λ r. ⌜ r ≡ toZ w32 x ⌝ }
+{
+    if x < 2147483648 {
+        x as i32
+    } else {
+        -1 - (4294967295 - x) as i32
+    }
+}
+
+fn end_at(s: &[u8], at: usize) -> i32
+    requires { ⌜ at + 4 ≤ length (now s) ⌝ }
+    ensures { λ r. ⌜ r ≡ toZ w32 (word-at (now (s .entry)) at) ⌝ }
+{
+    signed_of(word_of(s[at], s[at + 1], s[at + 2], s[at + 3]))
+}
+
+pub fn constant_in(s: &[u8]) -> Interval
+    requires { ⌜ 8 ≤ length (now s) ⌝ }
+    ensures { λ r. ⌜ r ≡ constant-in (now (s .entry)) ⌝ }
+{
+    Interval {
+        lower: end_at(s, 0),
+        upper: end_at(s, 4),
+    }
+}
