@@ -9,8 +9,9 @@ use mir.Facts.{toZ-ofZ}
 use Rattle.directed.specs.declared.Interval.{Interval}
 use Rattle.directed.specs.Thousandths.{interval}
 use Rattle.directed.specs.Answer.{Outcome, value, refusal}
+use Rattle.lists.specs.Lists as lists
 use Rattle.text.specs.Answer.{Told, length-told, refusal-told, Writing}
-use Rattle.capi.specs.Call.{Left, left, left-by, LeftLength, left-length, left-length-by, left-writing, left-writing-by}
+use Rattle.capi.specs.Call.{Left, left, left-by, with-step, left-by-list, LeftLength, left-length, left-length-by, left-writing, left-writing-by}
 
 -- an interval made of two numbers that are given
 pub made : {a : Interval} {l u : ℤ} → SFits w32 l → SFits w32 u → a ≡ interval (toZ w32 (ofZ w32 l)) (toZ w32 (ofZ w32 u)) → a ≡ interval l u
@@ -27,6 +28,18 @@ module _ (before : List ℤ) {o : Outcome} where
 
   pub left-same : {p : Outcome} {l : Left} → l ≡ left-by o before → o ≡ p → l ≡ left-by p before
   left-same given same = rw same at given
+
+module _ (before : List ℤ) {o : lists.Result} where
+  pub left-list-value : {a : Interval} {l u : ℤ} → o ≡ lists.value a → l ≡ a .lower → u ≡ a .upper → left 0 (l ∷ u ∷ []) ≡ left-by-list o before
+  unfolding left-by-list
+  left-list-value p q r = rw (p, q, r)
+
+  pub left-list-refusal : {k step n : ℕ} → o ≡ lists.refusal k step → n ≡ with-step k step → left n before ≡ left-by-list o before
+  unfolding left-by-list
+  left-list-refusal p q = rw (p, q)
+
+  pub left-same-list : {p : lists.Result} {l : Left} → l ≡ left-by-list o before → o ≡ p → l ≡ left-by-list p before
+  left-same-list given same = rw same at given
 
 module _ (before : ℕ) {t : Told} where
   pub left-length-told : {n : ℕ} → t ≡ length-told n → left-length 0 n ≡ left-length-by t before

@@ -1,11 +1,12 @@
 -- What a call from C or Rust leaves: the number that it returns, and what stands at exit in the places that the caller lends. Assumes nothing.
 use mathlib.Core.Bool.{Bool, true, false}
 use mathlib.Core.List.{List, [], _∷_}
-use Prim.Native.Nat.{ℕ}
+use Prim.Native.Nat.{ℕ, _+_, _*_}
 use lib.IntN.{ℤ}
 use Rattle.directed.specs.declared.Rounding.{Rounding}
 use Rattle.directed.specs.declared.Rounding.the-variants.{Outward, Inward}
 use Rattle.directed.specs.Answer.{Outcome, value, refusal}
+use Rattle.lists.specs.Lists as lists
 use Rattle.text.specs.Answer.{Told, length-told, refusal-told, Writing}
 
 -- 01's way, as C says it
@@ -25,6 +26,14 @@ left n ends = record { returned = n; result = ends }
 unfoldable pub left-by : Outcome → List ℤ → Left
 left-by (value a) before = left 0 (a .lower ∷ a .upper ∷ [])
 left-by (refusal k) before = left k before
+
+-- "number; in a list also the step": both in the returned number, so that a refused list leaves the lent ends as they were too
+abbrev pub with-step : ℕ → ℕ → ℕ
+with-step number step = number + 256 * step
+
+unfoldable pub left-by-list : lists.Result → List ℤ → Left
+left-by-list (lists.value a) before = left 0 (a .lower ∷ a .upper ∷ [])
+left-by-list (lists.refusal k step) before = left (with-step k step) before
 
 -- Writing a text: the length goes to a lent number of its own.
 pub record LeftLength : Type 0 where

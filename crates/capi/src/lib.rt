@@ -1,15 +1,19 @@
 // The library as C functions, for programs in C or Rust to link (include/donzibrau.h). Every function takes any numbers and any bytes: what a call
 // leaves, refusals included, is defined once, in specs/Call.antt.
 ghost use mathlib.Core.Path.{_≡_};
+ghost use Prim.Native.Nat.{ℕ, _≤_};
 ghost use Rattle.directed.specs.Thousandths.{interval};
 ghost use Rattle.directed.specs.Answer as answer;
 ghost use Rattle.directed.specs.Answer.{outcome};
 ghost use Rattle.directed.specs.Equation as meaning;
 ghost use Rattle.text.specs.Answer.{told, read, write};
-ghost use Rattle.capi.specs.Call.{way, left, left-by, left-length, left-length-by, left-writing, left-writing-by};
+ghost use Rattle.lists.specs.Lists as list;
+ghost use Rattle.lines.specs.Line as line;
+ghost use Rattle.capi.specs.Call.{way, left, left-by, left-by-list, left-length, left-length-by, left-writing, left-writing-by};
 use directed::Answer;
 use directed::Interval;
 use directed::Rounding;
+use lists::ListAnswer;
 use text::Written;
 
 fn rounding(inward: bool) -> Rounding
@@ -191,4 +195,37 @@ pub extern "C" fn dzb_write(lower: i32, upper: i32, buffer: &mut [u8], length: &
 {
     let answer = text::write(Interval::new(lower, upper), buffer);
     give_length(answer, length)
+}
+
+// ---- lists and lines
+
+fn give_list(answer: ListAnswer, result: &mut [i32; 2]) -> u32
+    requires { ⌜ ((n k : ℕ) → list.outcome answer ≡ list.refusal n k → k ≤ 64) ⌝ }
+    ensures { λ r. ⌜ left r (now (result .exit)) ≡ left-by-list (list.outcome answer) (now (result .entry)) ⌝ }
+{
+    match answer {
+        ListAnswer::Value(a) => {
+            let lower = a.lower;
+            let upper = a.upper;
+            *result = [lower, upper];
+            0
+        }
+        ListAnswer::Refused { cause, at } => cause.number() as u32 + 256 * (at as u32),
+    }
+}
+
+// Causes 10, 6, 7, 2, 8, 9, then 11, then 4, each with its step.
+#[no_mangle]
+pub extern "C" fn dzb_list(bytes: &[u8], inward: bool, result: &mut [i32; 2]) -> u32
+    ensures { λ r. ⌜ left r (now (result .exit)) ≡ left-by-list (list.answer 16 64 (way inward) (now (bytes .entry))) (now (result .entry)) ⌝ }
+{
+    give_list(engine::evaluate(bytes, rounding(inward)), result)
+}
+
+// A line without its byte 10: causes 12, 6, then of each pair 1, 2, then 5, 4.
+#[no_mangle]
+pub extern "C" fn dzb_line(bytes: &[u8], result: &mut [i32; 2]) -> u32
+    ensures { λ r. ⌜ left r (now (result .exit)) ≡ left-by (line.answer (now (bytes .entry))) (now (result .entry)) ⌝ }
+{
+    give(lines::answer(bytes), result)
 }

@@ -7,9 +7,11 @@ ghost use Rattle.directed.specs.Equation.{equation};
 ghost use Rattle.text.specs.Answer.{read};
 ghost use Rattle.lines.specs.Fields.{fields, fields-behind};
 ghost use Rattle.lines.specs.Line.{first-field, second-field, binary, with-pair, two, three, operate, operate-first, answer as answer-of};
+
 mod output;
 mod scan;
 pub mod stream;
+
 use directed::Answer;
 use directed::Cause;
 use directed::Interval;
@@ -144,7 +146,12 @@ fn two_fields(operation: Binary, rounding: Rounding, line: &[u8], end: usize) ->
     if second_end != line.len() {
         return Answer::Refused(Cause::MalformedLine);
     }
-    of_two(operation, rounding, &line[first..first_end], &line[second..second_end])
+    of_two(
+        operation,
+        rounding,
+        &line[first..first_end],
+        &line[second..second_end],
+    )
 }
 
 // Three of them.
@@ -170,7 +177,12 @@ fn three_fields(rounding: Rounding, line: &[u8], end: usize) -> Answer
     if third_end != line.len() {
         return Answer::Refused(Cause::MalformedLine);
     }
-    of_three(rounding, &line[first..first_end], &line[second..second_end], &line[third..third_end])
+    of_three(
+        rounding,
+        &line[first..first_end],
+        &line[second..second_end],
+        &line[third..third_end],
+    )
 }
 
 // The fields from the second on, which begins at `from`.

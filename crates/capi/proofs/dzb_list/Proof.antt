@@ -1,0 +1,24 @@
+-- `capi::dzb_list` gives the answer of `engine::evaluate`, whose steps are at most 64. Assumes nothing.
+use borrow.Author.Needs.{needs}
+use mathlib.Core.Path.{sym, _∙_}
+use Rattle.capi.specs.StepLaws.{step-within}
+use Rattle.capi.proofs.Shared.{left-same-list}
+use Rattle.capi.proofs.dzb_list.Statement.{statement}
+use Rattle.capi.proofs.dzb_list.Tie as tie
+
+rounding-requires : tie.Need-rounding-requires
+rounding-requires c κs = search needs
+
+evaluate-requires : tie.Need-evaluate-requires
+evaluate-requires c κs = search needs
+
+give-list-requires : tie.Need-give-list-requires
+give-list-requires c κs n k refused = step-within 16 64 _ _ n k (sym (c .before .evaluate .ensures) ∙ refused)
+
+returns : tie.Need-returns
+returns c =
+    let called = c .before .before in
+    left-same-list _ (c .give-list .ensures) (rw (called .before .rounding .ensures) at (called .evaluate .ensures))
+
+pub dzb-list-spec : {M : Type 1} → statement M
+dzb-list-spec = tie.close (tie.spec rounding-requires evaluate-requires give-list-requires returns)

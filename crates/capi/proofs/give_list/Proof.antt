@@ -1,0 +1,56 @@
+-- `capi::give_list` meets its contract. Assumes nothing.
+use borrow.Author.Needs.{needs}
+use mathlib.Core.Path.{ap}
+use Prim.Native.Nat.{_≤_, _+_, _*_}
+use native.Mathlib.Omega.{arith}
+use Rattle.lists.specs.Lists.{outcome}
+use Rattle.capi.proofs.Shared.{left-list-value, left-list-refusal}
+use Rattle.capi.proofs.give_list.Statement.{statement}
+use Rattle.capi.proofs.give_list.Tie as tie
+
+enum-known-answer : tie.Need-enum-known-answer
+enum-known-answer c = search needs
+
+enum-known-answer-2 : tie.Need-enum-known-answer-2
+enum-known-answer-2 c = search needs
+
+number-requires : tie.Need-number-requires
+number-requires c κs = search needs
+
+cast-result : tie.Need-cast-result
+cast-result c = search needs
+
+-- what `requires` says of the step
+step-within : (c : tie.After-number) → c .before .before .answer2 .given .0 .1 .0 ≤ 64
+step-within c = c .before .before .before .before .pre _ _ (ap outcome (c .before .before .answer2 .given .1))
+
+cast-result-2 : tie.Need-cast-result-2
+cast-result-2 c = omega (arith, step-within c)
+
+mul-result : tie.Need-mul-result
+mul-result c = omega (arith, step-within c)
+
+add-result : tie.Need-add-result
+add-result c = omega (arith, step-within c)
+
+returns : tie.Need-returns
+returns c =
+    left-list-value _ (ap outcome (c .before .before .before .before .answer .given .1)) (search needs) (search needs)
+
+returns-2 : tie.Need-returns-2
+returns-2 c =
+    left-list-refusal _ (ap outcome (c .before .before .answer2 .given .1)) (rw (c .number .ensures))
+
+pub give-list-spec : {M : Type 1} → statement M
+give-list-spec =
+    tie.close
+    (tie.spec
+    enum-known-answer
+    enum-known-answer-2
+    number-requires
+    cast-result
+    cast-result-2
+    mul-result
+    add-result
+    returns
+    returns-2)
