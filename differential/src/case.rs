@@ -88,10 +88,19 @@ fn compare_result(expected: Answer, call: impl FnOnce(&mut [i32; 2]) -> u32) -> 
     if returned == returned_for(expected) && memory == after {
         return Ok((returned % 256) as usize);
     }
-    Err(Difference {
-        library: format!("returns {} (step {}), memory {:?}", returned % 256, returned / 256, memory),
-        paper: format!("{expected:?}, memory {after:?}"),
-    })
+    Err(Difference { library: shown(returned, &before, &memory), paper: shown(returned_for(expected), &before, &after) })
+}
+
+/// What a call left: `[l,u]`, or `R number` with a step, and the memory where more was touched than that says.
+fn shown(returned: u32, before: &[i32], after: &[i32]) -> String {
+    let (lower, upper) = (after[MARGIN], after[MARGIN + 1]);
+    let outside = |memory: &[i32]| [&memory[..MARGIN], &memory[MARGIN + 2..]].concat();
+    match returned {
+        0 if outside(before) == outside(after) => format!("[{lower},{upper}]"),
+        _ if before == after && returned < 256 => format!("R {returned}"),
+        _ if before == after => format!("R {} at step {}", returned % 256, returned / 256),
+        _ => format!("returns {returned} and leaves {after:?} of {before:?}"),
+    }
 }
 
 /// Calls with a copy of the bytes that has margins, and finds whether a byte of it was changed.

@@ -55,6 +55,15 @@ impl Fraction {
         self.over / self.under
     }
 
+    /// The same fraction in its lowest terms.
+    fn reduced(self) -> Fraction {
+        let (mut a, mut b) = (self.over.abs(), self.under);
+        while b != 0 {
+            (a, b) = (b, a % b);
+        }
+        Fraction::new(self.over / a, self.under / a)
+    }
+
     fn sign(self) -> i128 {
         self.over.signum()
     }
@@ -140,6 +149,10 @@ impl Pair {
             Sign::Minus => self.lower,
             Sign::Plus => self.upper,
         }
+    }
+
+    pub fn reduced(self) -> Pair {
+        Pair::new(self.lower.reduced(), self.upper.reduced())
     }
 
     /// "negation [−u, −l]"

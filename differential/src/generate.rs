@@ -21,7 +21,8 @@ fn end(r: &mut Random) -> i64 {
         3 => r.between(-RANGE, RANGE),
         // Every size as likely as every other.
         _ => {
-            let size = r.between(0, RANGE >> r.below(31));
+            let bits = r.below(31);
+            let size = r.between(0, RANGE >> bits);
             if r.percent(50) { size } else { -size }
         }
     }
@@ -29,7 +30,8 @@ fn end(r: &mut Random) -> i64 {
 
 /// An end just beyond the range, or far.
 fn end_beyond(r: &mut Random) -> i64 {
-    let size = r.one_of(&[RANGE + 1, RANGE + 2, i32::MAX as i64, RANGE + 1 + r.between(0, 147_483_646)]);
+    let any = r.between(RANGE + 1, i32::MAX as i64);
+    let size = r.one_of(&[RANGE + 1, RANGE + 2, i32::MAX as i64, any]);
     if r.percent(50) { size } else { -size - r.between(0, 1) }
 }
 
@@ -248,6 +250,24 @@ fn built(steps: usize, depth: usize, r: &mut Random) -> Vec<u8> {
         } else {
             list.push(r.one_of(&[4, 5, 5, 6, 6]));
         }
+    }
+    list
+}
+
+/// A list that leaves one value, with at most so many products.
+pub fn short_list(r: &mut Random, products: usize) -> Vec<u8> {
+    let steps = 2 + r.index(12);
+    let mut list = built(steps, 4, r);
+    let mut left = products;
+    let mut at = 0;
+    while at < list.len() {
+        match list[at] {
+            0 => at += 8,
+            3 if left == 0 => list[at] = 1,
+            3 => left -= 1,
+            _ => {}
+        }
+        at += 1;
     }
     list
 }

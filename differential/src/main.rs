@@ -1,6 +1,7 @@
 //! The archive compared with document 01: see README.md at the repository's root, and `--help`.
 
 mod case;
+mod containment;
 mod exact;
 mod generate;
 mod library;
@@ -14,7 +15,7 @@ mod worked;
 use case::{Case, Difference, FUNCTIONS};
 use paper::{Mistake, Paper, MISTAKES};
 use random::Random;
-use std::sync::atomic::{AtomicBool, AtomicU64, Ordering};
+use std::sync::atomic::{AtomicU64, Ordering};
 use std::sync::Mutex;
 use std::time::{Instant, SystemTime, UNIX_EPOCH};
 
@@ -66,9 +67,10 @@ struct Failure {
 /// Random blocks on every core, until all are done or an input fails.
 fn compare_random(seed: u64, comparisons: u64, paper: Paper) -> Result<Counts, Failure> {
     let next = AtomicU64::new(0);
-    let failed = AtomicBool::new(false);
+    // The lowest block that fails, so that a seed always shows the same failure.
+    let failed = AtomicU64::new(u64::MAX);
     let total: Mutex<Counts> = Mutex::new([[0; 13]; FUNCTIONS.len()]);
-    let failure: Mutex<Option<Case>> = Mutex::new(None);
+    let failure: Mutex<Option<(u64, Case)>> = Mutex::new(None);
     let cores = std::thread::available_parallelism().map_or(1, |n| n.get());
     std::thread::scope(|threads| {
         for _ in 0..cores {
@@ -76,7 +78,7 @@ fn compare_random(seed: u64, comparisons: u64, paper: Paper) -> Result<Counts, F
                 let mut counts: Counts = [[0; 13]; FUNCTIONS.len()];
                 loop {
                     let block = next.fetch_add(1, Ordering::Relaxed);
-                    if block * BLOCK >= comparisons || failed.load(Ordering::Relaxed) {
+                    if block * BLOCK >= comparisons || block > failed.load(Ordering::Relaxed) {
                         break;
                     }
                     let mut r = Random::for_block(seed, block);
@@ -85,8 +87,11 @@ fn compare_random(seed: u64, comparisons: u64, paper: Paper) -> Result<Counts, F
                         match case.compare(paper) {
                             Ok(cause) => counts[case.function()][cause] += 1,
                             Err(_) => {
-                                failed.store(true, Ordering::Relaxed);
-                                failure.lock().unwrap().get_or_insert(case);
+                                failed.fetch_min(block, Ordering::Relaxed);
+                                let mut first = failure.lock().unwrap();
+                                if first.as_ref().is_none_or(|(other, _)| block < *other) {
+                                    *first = Some((block, case));
+                                }
                                 return;
                             }
                         }
@@ -101,7 +106,7 @@ fn compare_random(seed: u64, comparisons: u64, paper: Paper) -> Result<Counts, F
     });
     match failure.into_inner().unwrap() {
         None => Ok(total.into_inner().unwrap()),
-        Some(case) => {
+        Some((_, case)) => {
             let case = shrink::smallest(case, paper);
             let difference = case.compare(paper).expect_err("the smallest input still fails");
             Err(Failure { case, difference })
@@ -141,8 +146,8 @@ fn check_mistakes(seed: u64) {
         match compare_random(seed, 1_000_000, Paper { mistake }) {
             Ok(_) => stop(&format!("FAILED: the mistake {mistake:?} is not noticed")),
             Err(failure) => {
-                println!("  {mistake:?}: {}", failure.case);
-                println!("    library {}; with the mistake {}", failure.difference.library, failure.difference.paper);
+                let Failure { case, difference } = failure;
+                println!("  {mistake:?}: {case}: {}, and with the mistake {}", difference.library, difference.paper);
             }
         }
     }
@@ -169,6 +174,10 @@ fn main() {
     });
     print_counts(&counts);
     check_causes(&counts);
+    match containment::check(options.seed) {
+        Ok(n) => println!("lists of few products: {n} values contain the exact value outward, or lie in it inward"),
+        Err(message) => stop(&format!("FAILED: {message}")),
+    }
     if let Some(path) = &options.program {
         match program::compare(path, options.seed, CORRECT) {
             Ok(told) => println!("{told}"),

@@ -11,16 +11,16 @@ use Rattle.directed.specs.Thousandths.{interval}
 use Rattle.directed.specs.Answer.{Outcome, value, refusal}
 use Rattle.lists.specs.Lists as lists
 use Rattle.text.specs.Answer.{Told, length-told, refusal-told, Writing}
-use Rattle.capi.specs.Call.{Left, left, left-by, with-step, left-by-list, LeftLength, left-length, left-length-by, left-writing, left-writing-by}
+use Rattle.capi.specs.Call.{Left, left, done, left-by, with-step, left-by-list, LeftLength, left-length, left-length-by, left-writing, left-writing-by}
 
 -- an interval made of two numbers that are given
 pub made : {a : Interval} {l u : ℤ} → SFits w32 l → SFits w32 u → a ≡ interval (toZ w32 (ofZ w32 l)) (toZ w32 (ofZ w32 u)) → a ≡ interval l u
 made fits-l fits-u p = rw (toZ-ofZ fits-l, toZ-ofZ fits-u) at p
 
 module _ (before : List ℤ) {o : Outcome} where
-  pub left-value : {a : Interval} {l u : ℤ} → o ≡ value a → l ≡ a .lower → u ≡ a .upper → left 0 (l ∷ u ∷ []) ≡ left-by o before
+  pub left-value : {a : Interval} {l : Left} → o ≡ value a → l ≡ done a → l ≡ left-by o before
   unfolding left-by
-  left-value p q r = rw (p, q, r)
+  left-value p q = rw p q
 
   pub left-refusal : {k n : ℕ} → o ≡ refusal k → n ≡ k → left n before ≡ left-by o before
   unfolding left-by
@@ -30,9 +30,9 @@ module _ (before : List ℤ) {o : Outcome} where
   left-same given same = rw same at given
 
 module _ (before : List ℤ) {o : lists.Result} where
-  pub left-list-value : {a : Interval} {l u : ℤ} → o ≡ lists.value a → l ≡ a .lower → u ≡ a .upper → left 0 (l ∷ u ∷ []) ≡ left-by-list o before
+  pub left-list-value : {a : Interval} {l : Left} → o ≡ lists.value a → l ≡ done a → l ≡ left-by-list o before
   unfolding left-by-list
-  left-list-value p q r = rw (p, q, r)
+  left-list-value p q = rw p q
 
   pub left-list-refusal : {k step n : ℕ} → o ≡ lists.refusal k step → n ≡ with-step k step → left n before ≡ left-by-list o before
   unfolding left-by-list

@@ -3,6 +3,7 @@ use mathlib.Core.Bool.{Bool, true, false}
 use mathlib.Core.List.{List, [], _∷_}
 use Prim.Native.Nat.{ℕ, _+_, _*_}
 use lib.IntN.{ℤ}
+use Rattle.directed.specs.declared.Interval.{Interval}
 use Rattle.directed.specs.declared.Rounding.{Rounding}
 use Rattle.directed.specs.declared.Rounding.the-variants.{Outward, Inward}
 use Rattle.directed.specs.Answer.{Outcome, value, refusal}
@@ -21,10 +22,13 @@ pub record Left : Type 0 where
 abbrev pub left : ℕ → List ℤ → Left
 left n ends = record { returned = n; result = ends }
 
+abbrev pub done : Interval → Left
+done a = left 0 (a .lower ∷ a .upper ∷ [])
+
 -- A value goes to the lent ends, lower then upper, and 0 is returned. "a refusal alters no byte of theirs": its number is returned, and the lent
 -- ends stay as they were.
 unfoldable pub left-by : Outcome → List ℤ → Left
-left-by (value a) before = left 0 (a .lower ∷ a .upper ∷ [])
+left-by (value a) before = done a
 left-by (refusal k) before = left k before
 
 -- "number; in a list also the step": both in the returned number, so that a refused list leaves the lent ends as they were too
@@ -32,7 +36,7 @@ abbrev pub with-step : ℕ → ℕ → ℕ
 with-step number step = number + 256 * step
 
 unfoldable pub left-by-list : lists.Result → List ℤ → Left
-left-by-list (lists.value a) before = left 0 (a .lower ∷ a .upper ∷ [])
+left-by-list (lists.value a) before = done a
 left-by-list (lists.refusal k step) before = left (with-step k step) before
 
 -- Writing a text: the length goes to a lent number of its own.

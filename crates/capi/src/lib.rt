@@ -9,7 +9,7 @@ ghost use Rattle.directed.specs.Equation as meaning;
 ghost use Rattle.text.specs.Answer.{told, read, write};
 ghost use Rattle.lists.specs.Lists as list;
 ghost use Rattle.lines.specs.Line as line;
-ghost use Rattle.capi.specs.Call.{way, left, left-by, left-by-list, left-length, left-length-by, left-writing, left-writing-by};
+ghost use Rattle.capi.specs.Call.{way, left, done, left-by, left-by-list, left-length, left-length-by, left-writing, left-writing-by};
 use directed::Answer;
 use directed::Interval;
 use directed::Rounding;
@@ -26,17 +26,21 @@ fn rounding(inward: bool) -> Rounding
     }
 }
 
+fn put(a: Interval, result: &mut [i32; 2]) -> u32
+    ensures { λ r. ⌜ left r (now (result .exit)) ≡ done a ⌝ }
+{
+    let lower = a.lower;
+    let upper = a.upper;
+    *result = [lower, upper];
+    0
+}
+
 // A value goes to the lent ends; a refusal leaves them as they are.
 fn give(answer: Answer, result: &mut [i32; 2]) -> u32
     ensures { λ r. ⌜ left r (now (result .exit)) ≡ left-by (outcome answer) (now (result .entry)) ⌝ }
 {
     match answer {
-        Answer::Value(a) => {
-            let lower = a.lower;
-            let upper = a.upper;
-            *result = [lower, upper];
-            0
-        }
+        Answer::Value(a) => put(a, result),
         Answer::Refused(cause) => cause.number() as u32,
     }
 }
@@ -204,12 +208,7 @@ fn give_list(answer: ListAnswer, result: &mut [i32; 2]) -> u32
     ensures { λ r. ⌜ left r (now (result .exit)) ≡ left-by-list (list.outcome answer) (now (result .entry)) ⌝ }
 {
     match answer {
-        ListAnswer::Value(a) => {
-            let lower = a.lower;
-            let upper = a.upper;
-            *result = [lower, upper];
-            0
-        }
+        ListAnswer::Value(a) => put(a, result),
         ListAnswer::Refused { cause, at } => cause.number() as u32 + 256 * (at as u32),
     }
 }

@@ -1,13 +1,16 @@
 -- `capi::give` meets its contract. Assumes nothing.
 use borrow.Author.Needs.{needs}
 use mathlib.Core.Path.{ap}
-use Rattle.directed.specs.Answer.{outcome, refusal}
+use Rattle.directed.specs.Answer.{outcome}
 use Rattle.capi.proofs.Shared.{left-value, left-refusal}
 use Rattle.capi.proofs.give.Statement.{statement}
 use Rattle.capi.proofs.give.Tie as tie
 
 enum-known-answer : tie.Need-enum-known-answer
 enum-known-answer c = search needs
+
+put-requires : tie.Need-put-requires
+put-requires c κs = search needs
 
 enum-known-answer-2 : tie.Need-enum-known-answer-2
 enum-known-answer-2 c = search needs
@@ -19,8 +22,7 @@ cast-result : tie.Need-cast-result
 cast-result c = search needs
 
 returns : tie.Need-returns
-returns c =
-    left-value _ (ap outcome (c .before .before .before .before .answer .given .1)) (search needs) (search needs)
+returns c = left-value _ (ap outcome (c .before .before .before .answer .given .1)) (c .put .ensures)
 
 returns-2 : tie.Need-returns-2
 returns-2 c = left-refusal _ (ap outcome (c .before .before .answer2 .given .1)) (c .number .ensures)
@@ -28,4 +30,11 @@ returns-2 c = left-refusal _ (ap outcome (c .before .before .answer2 .given .1))
 pub give-spec : {M : Type 1} → statement M
 give-spec =
     tie.close
-    (tie.spec enum-known-answer enum-known-answer-2 number-requires cast-result returns returns-2)
+    (tie.spec
+    enum-known-answer
+    put-requires
+    enum-known-answer-2
+    number-requires
+    cast-result
+    returns
+    returns-2)

@@ -1,7 +1,7 @@
 -- `capi::give_list` meets its contract. Assumes nothing.
 use borrow.Author.Needs.{needs}
 use mathlib.Core.Path.{ap}
-use Prim.Native.Nat.{_≤_, _+_, _*_}
+use Prim.Native.Nat.{_≤_}
 use native.Mathlib.Omega.{arith}
 use Rattle.lists.specs.Lists.{outcome}
 use Rattle.capi.proofs.Shared.{left-list-value, left-list-refusal}
@@ -10,6 +10,9 @@ use Rattle.capi.proofs.give_list.Tie as tie
 
 enum-known-answer : tie.Need-enum-known-answer
 enum-known-answer c = search needs
+
+put-requires : tie.Need-put-requires
+put-requires c κs = search needs
 
 enum-known-answer-2 : tie.Need-enum-known-answer-2
 enum-known-answer-2 c = search needs
@@ -34,18 +37,17 @@ add-result : tie.Need-add-result
 add-result c = omega (arith, step-within c)
 
 returns : tie.Need-returns
-returns c =
-    left-list-value _ (ap outcome (c .before .before .before .before .answer .given .1)) (search needs) (search needs)
+returns c = left-list-value _ (ap outcome (c .before .before .before .answer .given .1)) (c .put .ensures)
 
 returns-2 : tie.Need-returns-2
-returns-2 c =
-    left-list-refusal _ (ap outcome (c .before .before .answer2 .given .1)) (rw (c .number .ensures))
+returns-2 c = left-list-refusal _ (ap outcome (c .before .before .answer2 .given .1)) (rw (c .number .ensures))
 
 pub give-list-spec : {M : Type 1} → statement M
 give-list-spec =
     tie.close
     (tie.spec
     enum-known-answer
+    put-requires
     enum-known-answer-2
     number-requires
     cast-result
