@@ -11,45 +11,45 @@ use Rattle.directed.specs.Thousandths.{interval}
 use Rattle.directed.specs.Answer.{Outcome, value, refusal}
 use Rattle.lists.specs.Lists as lists
 use Rattle.text.specs.Answer.{Told, length-told, refusal-told, Writing}
-use Rattle.capi.specs.Call.{Left, left, done, left-by, with-step, left-by-list, LeftLength, left-length, left-length-by, left-writing, left-writing-by}
+use Rattle.capi.specs.Effect.{Effect, effect, done, effect-of, with-step, list-effect-of, LengthEffect, length-effect, length-effect-of, writing-effect, writing-effect-of}
 
 -- an interval made of two numbers that are given
 pub made : {a : Interval} {l u : ℤ} → SFits w32 l → SFits w32 u → a ≡ interval (toZ w32 (ofZ w32 l)) (toZ w32 (ofZ w32 u)) → a ≡ interval l u
 made fits-l fits-u p = rw (toZ-ofZ fits-l, toZ-ofZ fits-u) at p
 
 module _ (before : List ℤ) {o : Outcome} where
-  pub left-value : {a : Interval} {l : Left} → o ≡ value a → l ≡ done a → l ≡ left-by o before
-  unfolding left-by
-  left-value p q = rw p q
+  pub effect-value : {a : Interval} {l : Effect} → o ≡ value a → l ≡ done a → l ≡ effect-of o before
+  unfolding effect-of
+  effect-value p q = rw p q
 
-  pub left-refusal : {k n : ℕ} → o ≡ refusal k → n ≡ k → left n before ≡ left-by o before
-  unfolding left-by
-  left-refusal p q = rw (p, q)
+  pub effect-refusal : {k n : ℕ} → o ≡ refusal k → n ≡ k → effect n before ≡ effect-of o before
+  unfolding effect-of
+  effect-refusal p q = rw (p, q)
 
-  pub left-same : {p : Outcome} {l : Left} → l ≡ left-by o before → o ≡ p → l ≡ left-by p before
-  left-same given same = rw same at given
+  pub effect-same : {p : Outcome} {l : Effect} → l ≡ effect-of o before → o ≡ p → l ≡ effect-of p before
+  effect-same given same = rw same at given
 
 module _ (before : List ℤ) {o : lists.Result} where
-  pub left-list-value : {a : Interval} {l : Left} → o ≡ lists.value a → l ≡ done a → l ≡ left-by-list o before
-  unfolding left-by-list
-  left-list-value p q = rw p q
+  pub list-effect-value : {a : Interval} {l : Effect} → o ≡ lists.value a → l ≡ done a → l ≡ list-effect-of o before
+  unfolding list-effect-of
+  list-effect-value p q = rw p q
 
-  pub left-list-refusal : {k step n : ℕ} → o ≡ lists.refusal k step → n ≡ with-step k step → left n before ≡ left-by-list o before
-  unfolding left-by-list
-  left-list-refusal p q = rw (p, q)
+  pub list-effect-refusal : {k step n : ℕ} → o ≡ lists.refusal k step → n ≡ with-step k step → effect n before ≡ list-effect-of o before
+  unfolding list-effect-of
+  list-effect-refusal p q = rw (p, q)
 
-  pub left-same-list : {p : lists.Result} {l : Left} → l ≡ left-by-list o before → o ≡ p → l ≡ left-by-list p before
-  left-same-list given same = rw same at given
+  pub list-effect-same : {p : lists.Result} {l : Effect} → l ≡ list-effect-of o before → o ≡ p → l ≡ list-effect-of p before
+  list-effect-same given same = rw same at given
 
 module _ (before : ℕ) {t : Told} where
-  pub left-length-told : {n : ℕ} → t ≡ length-told n → left-length 0 n ≡ left-length-by t before
-  unfolding left-length-by
-  left-length-told p = rw p
+  pub length-effect-told : {n : ℕ} → t ≡ length-told n → length-effect 0 n ≡ length-effect-of t before
+  unfolding length-effect-of
+  length-effect-told p = rw p
 
-  pub left-length-refusal : {k n : ℕ} → t ≡ refusal-told k → n ≡ k → left-length n before ≡ left-length-by t before
-  unfolding left-length-by
-  left-length-refusal p q = rw (p, q)
+  pub length-effect-refusal : {k n : ℕ} → t ≡ refusal-told k → n ≡ k → length-effect n before ≡ length-effect-of t before
+  unfolding length-effect-of
+  length-effect-refusal p q = rw (p, q)
 
-  pub left-writing-same : {n l : ℕ} {d : List ℕ} {w : Writing} → left-length n l ≡ left-length-by t before → record { answer = t; buffer = d } ≡ w → left-writing n l d ≡ left-writing-by w before
-  unfolding left-writing-by
-  left-writing-same p q = rw (← q, p)
+  pub writing-effect-same : {n l : ℕ} {d : List ℕ} {w : Writing} → length-effect n l ≡ length-effect-of t before → record { answer = t; buffer = d } ≡ w → writing-effect n l d ≡ writing-effect-of w before
+  unfolding writing-effect-of
+  writing-effect-same p q = rw (← q, p)

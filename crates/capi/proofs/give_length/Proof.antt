@@ -2,7 +2,7 @@
 use borrow.Author.Needs.{needs}
 use mathlib.Core.Path.{ap}
 use Rattle.text.specs.Answer.{told}
-use Rattle.capi.proofs.Shared.{left-length-told, left-length-refusal}
+use Rattle.capi.proofs.Shared.{length-effect-told, length-effect-refusal}
 use Rattle.capi.proofs.give_length.Statement.{statement}
 use Rattle.capi.proofs.give_length.Tie as tie
 
@@ -19,10 +19,10 @@ cast-result : tie.Need-cast-result
 cast-result c = search needs
 
 returns : tie.Need-returns
-returns c = left-length-told _ (ap told (c .before .answer .given .1))
+returns c = length-effect-told _ (ap told (c .before .answer .given .1))
 
 returns-2 : tie.Need-returns-2
-returns-2 c = left-length-refusal _ (ap told (c .before .before .answer2 .given .1)) (c .number .ensures)
+returns-2 c = length-effect-refusal _ (ap told (c .before .before .answer2 .given .1)) (c .number .ensures)
 
 pub give-length-spec : {M : Type 1} → statement M
 give-length-spec =
