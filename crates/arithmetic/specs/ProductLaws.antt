@@ -5,7 +5,7 @@ use Prim.Native.Nat.{zero, suc, _*_}
 use native.Mathlib.Omega.{arith}
 use lib.IntN.{ℤ, pos, negsuc, _*ℤ_}
 use lib.Signed.{_≤ℤ_, ltZ, leZ, _<ℤ_}
-use Rattle.integers.specs.FloorLaws.{floor-scaled, ceiling-scaled}
+use Rattle.integers.specs.Floor.{floor-scaled, ceiling-scaled}
 use Rattle.integers.specs.Locals.{true-lt, true-le, false-lt, false-le}
 use Rattle.integers.specs.Parts.{lin}
 use Rattle.directed.specs.Exact.{Exact, direction, sort, _≋_, ⁺, ⁻, zero-free, holds-zero}

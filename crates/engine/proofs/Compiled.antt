@@ -1,11 +1,11 @@
 -- The program of an expression, and of those that wait; and what its run gives. Assumes nothing.
-use mathlib.Core.Path.{_≡_, refl, sym, ap, _∙_}
+use mathlib.Core.Path.{_≡_, refl, ap, _∙_}
 use mathlib.Core.Bool.{Bool, true, false, not}
 use mathlib.Core.List.{List, [], _∷_, _++_, append-assoc, append-nil}
-use Prim.Native.Nat.{ℕ, zero, suc, _+_, _-_, _≤_, _<_}
+use Prim.Native.Nat.{ℕ, suc, _+_, _-_, _≤_}
 use native.Mathlib.Omega.{arith}
 use native.Mathlib.Numerals.{add-one}
-use lib.ListN.{length, drop, length-append}
+use lib.ListN.{length, length-append}
 use Rattle.directed.specs.declared.Interval.{Interval}
 use Rattle.directed.specs.declared.Rounding.{Rounding}
 use Rattle.directed.specs.declared.Rounding.the-variants.{Outward, Inward}
@@ -15,7 +15,7 @@ use Rattle.lists.specs.declared.Unary.the-variants.{Negation, Opposite, Dual}
 use Rattle.lists.specs.declared.Binary.{Binary}
 use Rattle.lists.specs.declared.Step.{Step}
 use Rattle.lists.specs.declared.Step.the-variants.{Constant, One, Two, Unknown}
-use Rattle.lists.specs.Steps.{takes, is-unknown, constant-in}
+use Rattle.lists.specs.Steps.{takes, is-unknown}
 use Rattle.lists.specs.Lists.{Result, value, refusal, Expression, constant, one, two, stepped, other, under, unary, binary, at, after, evaluated}
 use Rattle.engine.specs.declared.program.Instruction.{Instruction}
 use Rattle.engine.specs.Program.{Code, code, instruction, no-constant, turning, turned-at, added}
@@ -69,15 +69,14 @@ turn-first-length : (ms : List Bool) → length (turn-first ms) ≡ length ms
 turn-first-length [] = refl
 turn-first-length (m ∷ ms) = refl
 
-turn-length : (f : Unary) (ms : List Bool) → length (if turning f then turn-first ms else ms) ≡ length ms
-turn-length Negation ms = refl
-turn-length Opposite ms = turn-first-length ms
-turn-length Dual ms = turn-first-length ms
+turn-length : (b : Bool) (ms : List Bool) → length (if b then turn-first ms else ms) ≡ length ms
+turn-length true ms = turn-first-length ms
+turn-length false ms = refl
 
 turns-length : (t : Expression) → length (turns t) ≡ size t
 unfolding turns size
 turns-length (constant k p) = refl
-turns-length (one k f a) = simp length-append (omega (arith, turn-length f (turns a), turns-length a))
+turns-length (one k f a) = simp length-append (omega (arith, turn-length (turning f) (turns a), turns-length a))
 turns-length (two k g a b) = simp length-append (omega (arith, turns-length a, turns-length b))
 
 all-turns-length : (ts : List Expression) → length (all-turns ts) ≡ all-size ts
@@ -91,28 +90,29 @@ size-above (one k f a) = omega arith
 size-above (two k g a b) = omega arith
 
 -- ---- a step more
-turned-seam : (xs ys : List Bool) → turned-at (length xs) (xs ++ ys) ≡ xs ++ turn-first ys
-turned-seam [] [] = refl
-turned-seam [] (y ∷ ys) = refl
-turned-seam (x ∷ xs) ys = ap (λ l. x ∷ l) (turned-seam xs ys)
+turned-first : (xs ys : List Bool) → turned-at (length xs) (xs ++ ys) ≡ xs ++ turn-first ys
+turned-first [] [] = refl
+turned-first [] (y ∷ ys) = refl
+turned-first (x ∷ xs) ys = ap (λ l. x ∷ l) (turned-first xs ys)
 
-turned-all : (ts : List Expression) (ys : List Bool) → turned-at (all-size ts) (all-turns ts ++ ys) ≡ all-turns ts ++ turn-first ys
-turned-all ts ys = rw (← all-turns-length ts) (turned-seam (all-turns ts) ys)
+turned-seam : (ts : List Expression) (b : Bool) (ys : List Bool)
+    → (if b then turned-at (all-size ts) (all-turns ts ++ ys) else (all-turns ts ++ ys)) ≡ all-turns ts ++ (if b then turn-first ys else ys)
+turned-seam ts true ys = rw (← all-turns-length ts) (turned-first (all-turns ts) ys)
+turned-seam ts false ys = refl
 
 pub added-compiled : (k : ℕ) (s : Step) (r : List ℕ) (ts : List Expression) → is-unknown s ≡ false → takes s ≤ length ts
-    → added s (constant-in r) (compiled ts) ≡ compiled (stepped k s r ts)
+    → added s r (compiled ts) ≡ compiled (stepped k s r ts)
 unfolding size flat turns
 added-compiled k Constant r ts u h = refl
 added-compiled k (One f) r [] u h = absurd (omega arith)
-added-compiled k (One Negation) r (a ∷ ts) u h =
+added-compiled k (One f) r (a ∷ ts) u h =
     let e : all-size ts + size a + 1 ≡ all-size ts + (size a + 1) = omega arith in
-    rw (e, append-assoc (all-flat ts) (flat a), append-assoc (all-turns ts) (turns a))
-added-compiled k (One Opposite) r (a ∷ ts) u h =
-    let e : all-size ts + size a + 1 ≡ all-size ts + (size a + 1) = omega arith in
-    rw (e, append-assoc (all-flat ts) (flat a), turned-all ts (turns a), append-assoc (all-turns ts) (turn-first (turns a)))
-added-compiled k (One Dual) r (a ∷ ts) u h =
-    let e : all-size ts + size a + 1 ≡ all-size ts + (size a + 1) = omega arith in
-    rw (e, append-assoc (all-flat ts) (flat a), turned-all ts (turns a), append-assoc (all-turns ts) (turn-first (turns a)))
+    rw (
+      e,
+      append-assoc (all-flat ts) (flat a),
+      turned-seam ts (turning f) (turns a),
+      append-assoc (all-turns ts) (if turning f then turn-first (turns a) else turns a),
+    )
 added-compiled k (Two g) r [] u h = absurd (omega arith)
 added-compiled k (Two g) r (b ∷ []) u h = absurd (omega arith)
 added-compiled k (Two g) r (b ∷ a ∷ ts) u h =
@@ -162,18 +162,20 @@ turn-first-append : (xs ys : List Bool) → 1 ≤ length xs → turn-first xs ++
 turn-first-append [] ys h = absurd (omega arith)
 turn-first-append (x ∷ xs) ys h = refl
 
-ran-under : (k : ℕ) (f : Unary) (w : Rounding) (a : Expression) (is : List Instruction) (ms : List Bool) (xs : List Interval)
-    → ran k w is ((if turning f then turn-first (turns a) else turns a) ++ ms) xs ≡ ran k (under f w) is (turns a ++ ms) xs
-ran-under k Negation w a is ms xs = refl
-ran-under k Opposite w a is ms xs = rw (turn-first-append (turns a) ms (omega (arith, turns-length a, size-above a))) (ran-turn k w is (turns a ++ ms) xs)
-ran-under k Dual w a is ms xs = rw (turn-first-append (turns a) ms (omega (arith, turns-length a, size-above a))) (ran-turn k w is (turns a ++ ms) xs)
+ran-turned : (k : ℕ) (b : Bool) (w : Rounding) (a : Expression) (is : List Instruction) (ms : List Bool) (xs : List Interval)
+    → ran k w is ((if b then turn-first (turns a) else turns a) ++ ms) xs ≡ ran k (way-after b w) is (turns a ++ ms) xs
+ran-turned k true w a is ms xs = rw (turn-first-append (turns a) ms (omega (arith, turns-length a, size-above a))) (ran-turn k w is (turns a ++ ms) xs)
+ran-turned k false w a is ms xs = refl
 
-under-back : (f : Unary) (w : Rounding) → way-after (turning f) (under f w) ≡ w
-under-back Negation w = refl
-under-back Opposite Outward = refl
-under-back Opposite Inward = refl
-under-back Dual Outward = refl
-under-back Dual Inward = refl
+under-way : (f : Unary) (w : Rounding) → under f w ≡ way-after (turning f) w
+under-way Negation w = refl
+under-way Opposite w = refl
+under-way Dual w = refl
+
+way-back : (b : Bool) (w : Rounding) → way-after b (way-after b w) ≡ w
+way-back true Outward = refl
+way-back true Inward = refl
+way-back false w = refl
 
 after-cong : (r : Result) (f g : Interval → Result) → ((x : Interval) → f x ≡ g x) → after r f ≡ after r g
 after-cong (value x) f g e = e x
@@ -189,9 +191,9 @@ unfolding ran
 ran-constant k w p is ms xs = rw add-one
 
 ran-one : (k j l : ℕ) (f : Unary) (w : Rounding) (is : List Instruction) (ms : List Bool) (xs : List Interval) (r : Result) → j ≡ k → suc k ≡ l
-    → after r (λ x. ran k (under f w) (instruction (One f) no-constant ∷ is) (turning f ∷ ms) (x ∷ xs)) ≡ after (after r λ x. at j (unary f x)) (λ z. ran l w is ms (z ∷ xs))
+    → after r (λ x. ran k (way-after (turning f) w) (instruction (One f) no-constant ∷ is) (turning f ∷ ms) (x ∷ xs)) ≡ after (after r λ x. at j (unary f x)) (λ z. ran l w is ms (z ∷ xs))
 unfolding ran
-ran-one k j l f w is ms xs (value x) e h = rw (under-back f w, e, ← h)
+ran-one k j l f w is ms xs (value x) e h = rw (way-back (turning f) w, e, ← h)
 ran-one k j l f w is ms xs (refusal n i) e h = refl
 
 ran-two : (k j l : ℕ) (g : Binary) (w : Rounding) (is : List Instruction) (ms : List Bool) (xs : List Interval) (r q : Result) → j ≡ k → suc k ≡ l
@@ -207,10 +209,15 @@ ran-flat : (k : ℕ) (w : Rounding) (t : Expression) (is : List Instruction) (ms
 unfolding flat turns size evaluated
 ran-flat k w (constant j p) is ms xs n = ran-constant k w p is ms xs
 ran-flat k w (one j f a) is ms xs n =
-    rw (append-assoc (flat a) (instruction (One f) no-constant ∷ []) is, append-assoc (if turning f then turn-first (turns a) else turns a) (turning f ∷ []) ms)
-    (ran-under k f w a _ _ xs
-    ∙ ran-flat k (under f w) a (instruction (One f) no-constant ∷ is) (turning f ∷ ms) xs (n .0)
-    ∙ ran-one (k + size a) j (k + (size a + 1)) f w is ms xs (evaluated (under f w) a) (n .1) (omega arith))
+    let v = way-after (turning f) w in
+    rw (
+      append-assoc (flat a) (instruction (One f) no-constant ∷ []) is,
+      append-assoc (if turning f then turn-first (turns a) else turns a) (turning f ∷ []) ms,
+      under-way f w,
+    )
+    (ran-turned k (turning f) w a _ _ xs
+    ∙ ran-flat k v a (instruction (One f) no-constant ∷ is) (turning f ∷ ms) xs (n .0)
+    ∙ ran-one (k + size a) j (k + (size a + 1)) f w is ms xs (evaluated v a) (n .1) (omega arith))
 ran-flat k w (two j g a b) is ms xs n =
     let i = instruction (Two g) no-constant in
     rw (

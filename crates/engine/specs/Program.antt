@@ -1,9 +1,9 @@
 -- A program in lists: the steps in order, at which of them the way turns, and where each waiting expression starts. Assumes nothing.
 use mathlib.Core.Bool.{Bool, true, false, not}
 use mathlib.Core.List.{List, [], _∷_, _++_}
-use Prim.Native.Nat.{ℕ, zero, suc, _+_, _-_, _≤_, _<_}
+use Prim.Native.Nat.{ℕ, zero, suc, _+_}
 use lib.IntN.{pos}
-use lib.ListN.{length, take, drop, getD, set}
+use lib.ListN.{take, drop, getD, set}
 use Rattle.directed.specs.declared.Interval.{Interval}
 use Rattle.directed.specs.Choice.{if_then_else_}
 use Rattle.directed.specs.Thousandths.{interval}
@@ -11,6 +11,7 @@ use Rattle.lists.specs.declared.Unary.{Unary}
 use Rattle.lists.specs.declared.Unary.the-variants.{Negation, Opposite, Dual}
 use Rattle.lists.specs.declared.Step.{Step}
 use Rattle.lists.specs.declared.Step.the-variants.{Constant, One, Two, Unknown}
+use Rattle.lists.specs.Steps.{constant-in}
 use Rattle.engine.specs.declared.program.Instruction.{Instruction}
 use Rattle.engine.specs.declared.program.Program.{Program}
 
@@ -19,9 +20,47 @@ abbrev pub tops : {A : Type 0} → A → ℕ → List A → List A
 tops d zero items = []
 tops d (suc n) items = getD items n d ∷ tops d n items
 
+-- ---- a step
 abbrev pub instruction : Step → Interval → Instruction
 instruction s p = record { step = s; constant = p }
 
+abbrev pub turning : Unary → Bool
+turning Negation = false
+turning Opposite = true
+turning Dual = true
+
+abbrev pub step-turns : Step → Bool
+step-turns Constant = false
+step-turns (One f) = turning f
+step-turns (Two g) = false
+step-turns Unknown = false
+
+abbrev pub turned-by : Bool → Bool → Bool
+turned-by t m = if t then not m else m
+
+abbrev pub first-step : Step → ℕ → ℕ → ℕ
+first-step Constant first k = k
+first-step (One f) first k = first
+first-step (Two g) first k = first
+first-step Unknown first k = first
+
+abbrev pub no-constant : Interval
+no-constant = interval (pos 0) (pos 0)
+
+abbrev pub step-constant : Step → List ℕ → Interval
+step-constant Constant rest = constant-in rest
+step-constant (One f) rest = no-constant
+step-constant (Two g) rest = no-constant
+step-constant Unknown rest = no-constant
+
+-- ---- a program
+abbrev pub instructions-of : Program → List Instruction
+instructions-of p = take (p .count) (p .instructions)
+
+abbrev pub turns-of : Program → List Bool
+turns-of p = take (p .count) (p .turns)
+
+-- while it is made: also the first step of each waiting expression, the latest first
 pub record Code : Type 0 where
   pub count : ℕ
   pub instructions : List Instruction
@@ -31,44 +70,24 @@ pub record Code : Type 0 where
 abbrev pub code : ℕ → List Instruction → List Bool → List ℕ → Code
 code n is ms ss = record { count = n; instructions = is; turns = ms; starts = ss }
 
-abbrev pub code-of : Program → Code
-code-of p = code (p .count) (take (p .count) (p .instructions)) (take (p .count) (p .turns)) (tops 0 (p .waiting) (p .starts))
+abbrev pub made : Program → ℕ → List ℕ → Code
+made p waiting starts = code (p .count) (instructions-of p) (turns-of p) (tops 0 waiting starts)
 
 abbrev pub empty : Code
 empty = code 0 [] [] []
 
-abbrev pub turning : Unary → Bool
-turning Negation = false
-turning Opposite = true
-turning Dual = true
-
-abbrev pub appended : Instruction → Bool → Code → Code
-appended i m c = code (c .count + 1) (c .instructions ++ (i ∷ [])) (c .turns ++ (m ∷ [])) (c .starts)
-
-abbrev pub opened : Code → Code
-opened c = code (c .count) (c .instructions) (c .turns) (c .count ∷ c .starts)
-
-abbrev pub closed : Code → Code
-closed c = code (c .count) (c .instructions) (c .turns) (drop 1 (c .starts))
-
 abbrev pub turned-at : ℕ → List Bool → List Bool
 turned-at n ms = set ms n (not (getD ms n false))
 
-abbrev pub turned : Code → Code
-turned c = code (c .count) (c .instructions) (turned-at (getD (c .starts) 0 0) (c .turns)) (c .starts)
+abbrev pub step-starts : Step → ℕ → List ℕ → List ℕ
+step-starts Constant k ss = k ∷ ss
+step-starts (One f) k ss = ss
+step-starts (Two g) k ss = drop 1 ss
+step-starts Unknown k ss = ss
 
--- a step more
-abbrev pub no-constant : Interval
-no-constant = interval (pos 0) (pos 0)
-
-abbrev pub added : Step → Interval → Code → Code
-added Constant p c = appended (instruction Constant p) false (opened c)
-added (One f) p c = appended (instruction (One f) no-constant) (turning f) (if turning f then turned c else c)
-added (Two g) p c = appended (instruction (Two g) no-constant) false (closed c)
-added Unknown p c = c
-
--- where a step finds room
-pub record Room (p : Program) : Type 0 where
-  pub count : p .count < 64
-  pub waiting : p .waiting ≤ 16
-  pub start : 1 ≤ p .waiting → getD (p .starts) (p .waiting - 1) 0 < p .count
+-- a step more: where it turns, the way changes at the first step of what it is applied to, and back at the step itself
+abbrev pub added : Step → List ℕ → Code → Code
+added s rest c =
+    code (c .count + 1) (c .instructions ++ (instruction s (step-constant s rest) ∷ []))
+    ((if step-turns s then turned-at (getD (c .starts) 0 0) (c .turns) else c .turns) ++ (step-turns s ∷ []))
+    (step-starts s (c .count) (c .starts))

@@ -1,5 +1,5 @@
-// Lists of steps: the engine. A list is decoded and judged once, into a program that tells in which way each step is wanted; the program is
-// then run, each step once.
+// Lists of steps: the engine. In which way a step is wanted depends on the steps behind it, so a list is first decoded and judged, into a
+// program that tells where the way turns; then the program is run, each step once and in its one way.
 ghost use mathlib.Core.Path.{_≡_};
 ghost use Prim.Native.Nat.{_≤_};
 ghost use Rattle.lists.specs.Lists.{answer, outcome};
@@ -12,7 +12,7 @@ mod judge;
 mod machine;
 mod program;
 
-// Limits of its own for each caller: at most `values` values wait, and at most `steps` steps run.
+// With a caller's own limits: at most `values` values wait at once, and the list has at most `steps` steps.
 fn evaluate_within(list: &[u8], rounding: Rounding, values: usize, steps: usize) -> ListAnswer
     requires { ⌜ (values ≤ 16) × (steps ≤ 64) ⌝ }
     ensures { λ r. ⌜ outcome r ≡ answer values steps rounding (now (list .entry)) ⌝ }
@@ -29,7 +29,7 @@ fn evaluate_within(list: &[u8], rounding: Rounding, values: usize, steps: usize)
     }
 }
 
-// What a list answers: 01's value, or the refusal with its step or count.
+// What a list answers, whatever its bytes are: its value, or one refusal with its step, or with the count of steps read.
 pub fn evaluate(list: &[u8], rounding: Rounding) -> ListAnswer
     ensures { λ r. ⌜ outcome r ≡ answer 16 64 rounding (now (list .entry)) ⌝ }
 {

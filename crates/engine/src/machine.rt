@@ -6,7 +6,7 @@ ghost use lib.ListN.{getD};
 ghost use Rattle.directed.specs.Answer as answers;
 ghost use Rattle.lists.specs.Steps.{takes};
 ghost use Rattle.lists.specs.Lists.{outcome, unary, binary};
-ghost use Rattle.engine.specs.Program.{tops, no-constant, code-of};
+ghost use Rattle.engine.specs.Program.{tops, no-constant, instructions-of, turns-of};
 ghost use Rattle.engine.specs.Machine.{values-of, step-outcome, way-after, ran};
 ghost use Rattle.engine.specs.Decode.{Runs};
 use crate::judge;
@@ -103,9 +103,10 @@ fn step_answer(stack: Stack, step: Step, constant: Interval, rounding: Rounding)
     }
 }
 
+// Cause 4 comes here alone, at the first step whose value in its way is beyond the range.
 pub fn run(program: Program, rounding: Rounding) -> ListAnswer
-    requires { ⌜ Runs (code-of program) ⌝ }
-    ensures { λ r. ⌜ outcome r ≡ ran 0 rounding (code-of program .instructions) (code-of program .turns) [] ⌝ }
+    requires { ⌜ Runs (program .count) (instructions-of program) ⌝ }
+    ensures { λ r. ⌜ outcome r ≡ ran 0 rounding (instructions-of program) (turns-of program) [] ⌝ }
 {
     let count = program.count;
     let mut way = rounding;

@@ -1,12 +1,15 @@
-// A line of the slip program: its answer, and the output line that says it.
+// The lines of the slip program: a line's answer, its output line (module output), and the stream of lines (module stream).
 ghost use mathlib.Core.Path.{_≡_};
 ghost use Prim.Native.Nat.{_≤_};
 ghost use lib.ListN.{length, drop};
 ghost use Rattle.directed.specs.Answer.{outcome};
 ghost use Rattle.directed.specs.Equation.{equation};
 ghost use Rattle.text.specs.Answer.{read};
-ghost use Rattle.lines.specs.Fields.{fields, fields-behind};
-ghost use Rattle.lines.specs.Line.{first-field, second-field, binary, with-pair, two, three, operate, operate-first, answer as answer-of};
+ghost use Rattle.lines.specs.Fields.{fields};
+ghost use Rattle.lines.specs.FieldLaws.{fields-behind};
+ghost use Rattle.lines.specs.Pairs.{Seen, Seen-last};
+ghost use Rattle.lines.specs.Line.{first-field, second-field, binary, with-pair, two, three, answer as answer-of};
+ghost use Rattle.lines.specs.AnswerLaws.{operate-first};
 
 mod output;
 mod scan;
@@ -36,6 +39,22 @@ enum Binary {
     Difference,
     Product,
     Quotient,
+}
+
+// What a quick look sees of a field: a pair, and where the field ends. A pair's text has no space in it: where one was read up to a space
+// or to the end, there its field ends, and needs no scan.
+enum PairSeen {
+    Found(Interval, usize),
+    Unsure,
+}
+
+// What `stream::feed` made of the bytes from a place on: how many lines are answered, the place behind them, how much of the buffer is
+// filled, and whether it was too full for a line that is there.
+pub struct Fed {
+    pub lines: u32,
+    pub at: usize,
+    pub filled: usize,
+    pub more: bool,
 }
 
 fn first_of(field: &[u8]) -> FirstField
@@ -79,15 +98,6 @@ fn second_of(field: &[u8]) -> SecondField
     SecondField::NoOperation
 }
 
-// What was made of the bytes from a place on: how many lines are answered, the place behind them, how much of the buffer is filled, and
-// whether it was too full for a line that is there.
-pub struct Fed {
-    pub lines: u32,
-    pub at: usize,
-    pub filled: usize,
-    pub more: bool,
-}
-
 fn calculate(operation: Binary, rounding: Rounding, a: Interval, b: Interval) -> Answer
     ensures { λ r. ⌜ outcome r ≡ binary operation rounding a b ⌝ }
 {
@@ -128,8 +138,71 @@ fn of_three(rounding: Rounding, first: &[u8], second: &[u8], third: &[u8]) -> An
     }
 }
 
-// The fields behind the second, which ends at `end`: two of them.
+// A look at the field behind the one that ends at `end`. A pair's text has 13 bytes or more.
+fn see_next(line: &[u8], end: usize) -> PairSeen
+    ensures { λ r. ⌜ Seen (now (line .entry)) end r ⌝ }
+{
+    if line.len() < 14 {
+        return PairSeen::Unsure;
+    }
+    if line.len() - 14 < end {
+        return PairSeen::Unsure;
+    }
+    let from = end + 1;
+    let next = scan::find_near(b' ', line, end + 14);
+    match text::read(&line[from..next]) {
+        Answer::Value(a) => PairSeen::Found(a, next),
+        Answer::Refused(_) => PairSeen::Unsure,
+    }
+}
+
+// The same where it should be the last.
+fn see_last(line: &[u8], end: usize) -> PairSeen
+    ensures { λ r. ⌜ Seen-last (now (line .entry)) end r ⌝ }
+{
+    if line.len() <= end {
+        return PairSeen::Unsure;
+    }
+    let from = end + 1;
+    match text::read(&line[from..]) {
+        Answer::Value(a) => PairSeen::Found(a, line.len()),
+        Answer::Refused(_) => PairSeen::Unsure,
+    }
+}
+
+// The fields behind the second, which ends at `end`, for an operation on two intervals.
 fn two_fields(operation: Binary, rounding: Rounding, line: &[u8], end: usize) -> Answer
+    requires { ⌜ end ≤ length (now line) ⌝ }
+    ensures { λ r. ⌜ outcome r ≡ two (binary operation rounding) (fields-behind (now (line .entry)) end) ⌝ }
+{
+    match see_next(line, end) {
+        PairSeen::Found(a, next) => match see_last(line, next) {
+            PairSeen::Found(b, _) => calculate(operation, rounding, a, b),
+            PairSeen::Unsure => two_by_scan(operation, rounding, line, end),
+        },
+        PairSeen::Unsure => two_by_scan(operation, rounding, line, end),
+    }
+}
+
+// The same for the equation.
+fn three_fields(rounding: Rounding, line: &[u8], end: usize) -> Answer
+    requires { ⌜ end ≤ length (now line) ⌝ }
+    ensures { λ r. ⌜ outcome r ≡ three (equation rounding) (fields-behind (now (line .entry)) end) ⌝ }
+{
+    match see_next(line, end) {
+        PairSeen::Found(a, next) => match see_next(line, next) {
+            PairSeen::Found(c, later) => match see_last(line, later) {
+                PairSeen::Found(b, _) => arithmetic::equation(a, c, b, rounding),
+                PairSeen::Unsure => three_by_scan(rounding, line, end),
+            },
+            PairSeen::Unsure => three_by_scan(rounding, line, end),
+        },
+        PairSeen::Unsure => three_by_scan(rounding, line, end),
+    }
+}
+
+// The fields are cut, whatever they hold: there must be two.
+fn two_by_scan(operation: Binary, rounding: Rounding, line: &[u8], end: usize) -> Answer
     requires { ⌜ end ≤ length (now line) ⌝ }
     ensures { λ r. ⌜ outcome r ≡ two (binary operation rounding) (fields-behind (now (line .entry)) end) ⌝ }
 {
@@ -154,8 +227,8 @@ fn two_fields(operation: Binary, rounding: Rounding, line: &[u8], end: usize) ->
     )
 }
 
-// Three of them.
-fn three_fields(rounding: Rounding, line: &[u8], end: usize) -> Answer
+// There must be three.
+fn three_by_scan(rounding: Rounding, line: &[u8], end: usize) -> Answer
     requires { ⌜ end ≤ length (now line) ⌝ }
     ensures { λ r. ⌜ outcome r ≡ three (equation rounding) (fields-behind (now (line .entry)) end) ⌝ }
 {
@@ -190,7 +263,7 @@ fn from_second(rounding: Rounding, line: &[u8], from: usize) -> Answer
     requires { ⌜ from ≤ length (now line) ⌝ }
     ensures { λ r. ⌜ outcome r ≡ operate-first rounding (fields (drop from (now (line .entry)))) ⌝ }
 {
-    let end = scan::find(b' ', line, from);
+    let end = scan::find_near(b' ', line, from);
     match second_of(&line[from..end]) {
         SecondField::Two(operation) => two_fields(operation, rounding, line, end),
         SecondField::Equation => three_fields(rounding, line, end),
@@ -205,7 +278,7 @@ pub fn answer(line: &[u8]) -> Answer
     if 96 < line.len() {
         return Answer::Refused(Cause::MalformedLine);
     }
-    let end = scan::find(b' ', line, 0);
+    let end = scan::find_near(b' ', line, 0);
     if end == line.len() {
         return Answer::Refused(Cause::MalformedLine);
     }

@@ -1,8 +1,8 @@
 -- Exchange of ends: exchange the ends of every constant of a list and put meet for join and join for meet, and its outward answer is the dual of
 -- the former inward answer, or both are refused alike, with the same number and step; and with the ways exchanged. Assumes nothing.
-use mathlib.Core.Path.{_≡_, refl, sym, ap, _∙_}
+use mathlib.Core.Path.{_≡_, refl, ap, _∙_}
 use mathlib.Core.List.{List, [], _∷_, map}
-use Prim.Native.Nat.{ℕ, zero, suc, _+_, _≤_}
+use Prim.Native.Nat.{ℕ, zero, suc}
 use native.Mathlib.Omega.{arith}
 use lib.Dec.{eqb}
 use lib.ListN.{length, drop, length-map}
@@ -25,7 +25,7 @@ use Rattle.lists.specs.declared.Binary.{Binary}
 use Rattle.lists.specs.declared.Binary.the-variants.{Sum, Difference, Product, Join, Meet}
 use Rattle.lists.specs.declared.Step.{Step}
 use Rattle.lists.specs.declared.Step.the-variants.{Constant, One, Two, Unknown}
-use Rattle.lists.specs.Steps.{step-of, takes, leaves, follows, constant-in}
+use Rattle.lists.specs.Steps.{step-of, follows, constant-in}
 use Rattle.lists.specs.Lists.{Result, value, refusal, Judgement, sound, cause, judgement, Expression, constant, one, two, stepped, Reading, whole, refused, at-end, unless, read, other, under, unary, binary, at, after, evaluated, result, answer}
 use Rattle.lists.specs.ExactValue.{exact-unary, exact-binary}
 use Rattle.lists.specs.Containment.{unary-rounded, binary-rounded}

@@ -1,13 +1,12 @@
 -- What is accepted under some limits has the same value under wider ones. Assumes nothing.
 use mathlib.Core.Path.{_≡_, refl}
-use mathlib.Core.List.{List, [], _∷_}
-use Prim.Native.Nat.{ℕ, zero, suc, _≤_}
+use mathlib.Core.List.{List, []}
+use Prim.Native.Nat.{ℕ, _≤_}
 use native.Mathlib.Omega.{arith}
-use lib.ListN.{length, drop}
 use Rattle.directed.specs.declared.Interval.{Interval}
 use Rattle.directed.specs.declared.Rounding.{Rounding}
 use Rattle.lists.specs.Lists.{value, Expression, Reading, whole, refused, read, result, answer}
-use Rattle.lists.specs.Causes.{Judged, no-cause}
+use Rattle.lists.specs.Causes.{no-cause}
 use Rattle.lists.specs.Reached.{Reached, first, next, Ending, too-long, stopped, not-one, done, ends, ending-is}
 
 module _ (v v′ l l′ : ℕ) (s : List ℕ) (h : v ≤ v′) (i : l ≤ l′) where

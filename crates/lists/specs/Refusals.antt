@@ -17,7 +17,7 @@ use Rattle.lists.specs.declared.Unary.the-variants.{Negation, Opposite, 
 use Rattle.lists.specs.declared.Binary.{Binary}
 use Rattle.lists.specs.declared.Binary.the-variants.{Sum, Difference, Product, Join, Meet}
 use Rattle.lists.specs.Lists.{Result, value, refusal, Expression, constant, one, two, Reading, whole, refused, under, unary, binary, at, after, evaluated, read, result, answer}
-use Rattle.lists.specs.Reached.{Ending, done, ends, ending-is}
+use Rattle.lists.specs.Reached.{Ending, ends, ending-is}
 use Rattle.lists.specs.Ways.{Wanted, wanted, wants}
 
 -- ---- an expression that is wanted in the way w is refused with the number n at step k: that step's operation, on what it takes in the way in

@@ -32,12 +32,12 @@ unfolding step-of constant-in judgement read unary binary evaluated answer in-ra
 all-worked = (worked, refl)
 
 -- [0,1.001] times [0,1998001.999] is [0,2000000.000999]: outward its upper end leaves the range, inward it does not
-abbrev product-dual : List ℕ
-product-dual = 0 ∷ 0 ∷ 0 ∷ 0 ∷ 0 ∷ 233 ∷ 3 ∷ 0 ∷ 0 ∷ 0 ∷ 0 ∷ 0 ∷ 0 ∷ 0 ∷ 79 ∷ 23 ∷ 23 ∷ 119 ∷ 3 ∷ 6 ∷ []
+abbrev wide-product-dual : List ℕ
+wide-product-dual = 0 ∷ 0 ∷ 0 ∷ 0 ∷ 0 ∷ 233 ∷ 3 ∷ 0 ∷ 0 ∷ 0 ∷ 0 ∷ 0 ∷ 0 ∷ 0 ∷ 79 ∷ 23 ∷ 23 ∷ 119 ∷ 3 ∷ 6 ∷ []
 
 -- "Cause 4 is judged on each step's value in the way it is wanted, and on no other value."
 pub wanted-only :
-    (answer 16 64 Outward product-dual ≡ value (interval (pos 2000000000) (pos 0)))
-    × (answer 16 64 Inward product-dual ≡ refusal 4 2)
+    (answer 16 64 Outward wide-product-dual ≡ value (interval (pos 2000000000) (pos 0)))
+    × (answer 16 64 Inward wide-product-dual ≡ refusal 4 2)
 unfolding step-of constant-in judgement read unary binary evaluated answer in-range beyond-range outside round-down round-up floor floor-nat ceiling operations.product none-free sort direction smaller larger _*ᶠ_
 wanted-only = (refl, refl)

@@ -1,26 +1,27 @@
 -- A refusal is the one that reading comes to, and a program gives the list's answer. Assumes nothing.
-use mathlib.Core.Path.{_≡_, sym, _∙_}
+use mathlib.Core.Path.{_≡_, _∙_}
+use mathlib.Core.Bool.{Bool}
 use mathlib.Core.List.{List, []}
 use Prim.Native.Nat.{ℕ}
 use Rattle.directed.specs.declared.Rounding.{Rounding}
 use Rattle.lists.specs.Lists.{sound, cause, refusal, answer}
-use Rattle.engine.specs.Program.{Code}
+use Rattle.engine.specs.declared.program.Instruction.{Instruction}
 use Rattle.engine.specs.Machine.{ran}
 use Rattle.engine.specs.Decode.{Decodes, refuses, gives, Runs}
 use borrow.Author.Needs.{needs}
 use Rattle.engine.proofs.evaluate_within.Statement.{statement}
 use Rattle.engine.proofs.evaluate_within.Tie as tie
 
-sound-runs : {v steps : ℕ} {s : List ℕ} {c : Code} → Decodes v steps s sound c → Runs c
-sound-runs (gives r e) = r
+module _ {v steps n : ℕ} {s : List ℕ} {is : List Instruction} {ms : List Bool} where
+  sound-runs : Decodes v steps s n is ms sound → Runs n is
+  sound-runs (gives r e) = r
 
-sound-answers : {v steps : ℕ} {s : List ℕ} {c : Code} → Decodes v steps s sound c → (w : Rounding)
-    → ran 0 w (c .instructions) (c .turns) [] ≡ answer v steps w s
-sound-answers (gives r e) w = e w
+  sound-answers : Decodes v steps s n is ms sound → (w : Rounding) → ran 0 w is ms [] ≡ answer v steps w s
+  sound-answers (gives r e) w = e w
 
-cause-answers : {v steps n : ℕ} {s : List ℕ} {c : Code} → Decodes v steps s (cause n) c → (w : Rounding) → refusal n (c .count) ≡ answer v steps w s
-unfolding answer
-cause-answers (refuses e) w = rw e
+  cause-answers : {k : ℕ} → Decodes v steps s n is ms (cause k) → (w : Rounding) → refusal k n ≡ answer v steps w s
+  unfolding answer
+  cause-answers (refuses e) w = rw e
 
 decode-requires : tie.Need-decode-requires
 decode-requires c κs = search needs

@@ -6,14 +6,15 @@ use lib.ListN.{take, drop}
 use Rattle.lines.specs.declared.SecondField.{SecondField}
 use Rattle.lines.specs.declared.SecondField.the-variants.{Two, Equation, NoOperation}
 use Rattle.lines.specs.Scan.{found-within}
-use Rattle.lines.specs.Fields.{fields-behind, field-at}
-use Rattle.lines.specs.Line.{second-field, operate, operate-first}
+use Rattle.lines.specs.FieldLaws.{fields-behind, field-at}
+use Rattle.lines.specs.Line.{second-field, operate}
+use Rattle.lines.specs.AnswerLaws.{operate-first}
 use borrow.Author.Needs.{needs}
 use Rattle.lines.proofs.from_second.Statement.{statement}
 use Rattle.lines.proofs.from_second.Tie as tie
 
-find-requires : tie.Need-find-requires
-find-requires c κs = search needs
+find-near-requires : tie.Need-find-near-requires
+find-near-requires c κs = search needs
 
 sub-second-of : tie.Need-sub-second-of
 sub-second-of c = search needs
@@ -23,7 +24,7 @@ part-second-of-start c = search needs
 
 part-second-of-end : tie.Need-part-second-of-end
 part-second-of-end c = let a = c .before .before .args in
-    omega (arith, c .find .ensures, found-within 32 (a .line .now) (a .from) (c .before .before .pre))
+    omega (arith, c .find-near .ensures, found-within 32 (a .line .now) (a .from) (c .before .before .pre))
 
 second-of-requires : tie.Need-second-of-requires
 second-of-requires c κs = search needs
@@ -33,14 +34,14 @@ enum-known-operation c = search needs
 
 two-fields-requires : tie.Need-two-fields-requires
 two-fields-requires c κs = let a = c .before .before .before .before .before .before .before .args in
-    omega (arith, c .before .before .before .before .before .find .ensures, found-within 32 (a .line .now) (a .from) (c .before .before .before .before .before .before .before .pre))
+    omega (arith, c .before .before .before .before .before .find-near .ensures, found-within 32 (a .line .now) (a .from) (c .before .before .before .before .before .before .before .pre))
 
 enum-told : tie.Need-enum-told
 enum-told c = search needs
 
 three-fields-requires : tie.Need-three-fields-requires
 three-fields-requires c κs = let a = c .before .before .before .before .before .before .args in
-    omega (arith, c .before .before .before .before .find .ensures, found-within 32 (a .line .now) (a .from) (c .before .before .before .before .before .before .pre))
+    omega (arith, c .before .before .before .before .find-near .ensures, found-within 32 (a .line .now) (a .from) (c .before .before .before .before .before .before .pre))
 
 enum-told-2 : tie.Need-enum-told-2
 enum-told-2 c = search needs
@@ -49,7 +50,7 @@ returns : tie.Need-returns
 unfolding operate operate-first
 returns c = let a = c .before .before .before .before .before .before .before .before .args in
     let l = a .line .now in
-    let f = c .before .before .before .before .before .before .find in
+    let f = c .before .before .before .before .before .before .find-near in
     let e : second-field (take (f .result - a .from) (drop (a .from) l)) ≡ Two (c .before .before .operation .given .0 .0) = sym (c .before .before .before .before .second-of .ensures) ∙ c .before .before .operation .given .1 in
     c .two-fields .ensures ∙ ap (λ (o : SecondField). operate o (a .rounding) (fields-behind l (f .result))) (sym e)
     ∙ sym (ap (operate-first (a .rounding)) (field-at l (a .from) (f .result) (c .before .before .before .before .before .before .before .before .pre) (f .ensures)))
@@ -58,7 +59,7 @@ returns-2 : tie.Need-returns-2
 unfolding operate operate-first
 returns-2 c = let a = c .before .before .before .before .before .before .before .args in
     let l = a .line .now in
-    let f = c .before .before .before .before .before .find in
+    let f = c .before .before .before .before .before .find-near in
     let e : second-field (take (f .result - a .from) (drop (a .from) l)) ≡ Equation = sym (c .before .before .before .second-of .ensures) ∙ c .before .enum-told .given .1 in
     c .three-fields .ensures ∙ ap (λ (o : SecondField). operate o (a .rounding) (fields-behind l (f .result))) (sym e)
     ∙ sym (ap (operate-first (a .rounding)) (field-at l (a .from) (f .result) (c .before .before .before .before .before .before .before .pre) (f .ensures)))
@@ -67,7 +68,7 @@ returns-3 : tie.Need-returns-3
 unfolding operate operate-first
 returns-3 c = let a = c .before .before .before .before .before .before .args in
     let l = a .line .now in
-    let f = c .before .before .before .before .find in
+    let f = c .before .before .before .before .find-near in
     let e : second-field (take (f .result - a .from) (drop (a .from) l)) ≡ NoOperation = sym (c .before .before .second-of .ensures) ∙ c .enum-told2 .given .1 in
     ap (λ (o : SecondField). operate o (a .rounding) (fields-behind l (f .result))) (sym e)
     ∙ sym (ap (operate-first (a .rounding)) (field-at l (a .from) (f .result) (c .before .before .before .before .before .before .pre) (f .ensures)))
@@ -76,7 +77,7 @@ pub from-second-spec : {M : Type 1} → statement M
 from-second-spec =
     tie.close
     (tie.spec
-    find-requires
+    find-near-requires
     sub-second-of
     part-second-of-start
     part-second-of-end

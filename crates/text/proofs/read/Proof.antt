@@ -8,7 +8,7 @@ use Rattle.text.specs.Text.{opening, comma, closing}
 use borrow.Author.Needs.{needs}
 use borrow.Author.Tests.{not-true, not-false, eq-eqb, ne-eqb}
 use lib.ListN.{length, drop}
-use mathlib.Core.Bool.{Bool, true, false, cond}
+use mathlib.Core.Bool.{Bool, true, cond}
 use mathlib.Core.Path.{_≡_, refl, sym, ap, _∙_}
 use native.Mathlib.Omega.{arith}
 use Rattle.text.proofs.read.Statement.{statement}
@@ -23,13 +23,19 @@ abbrev μ-loop : tie.MeasureT-loop
 some : (c : tie.Else1 Inv-loop μ-loop) → 0 < length (c .before .before .args .text .now)
 some c = omega (arith, c .if1 .left)
 
+abbrev from : tie.At-loop Inv-loop μ-loop → tie.Start Inv-loop μ-loop
+from c = c .before .before .before .before .before
+
+abbrev at : tie.After-found Inv-loop μ-loop → tie.At-loop Inv-loop μ-loop
+at c = c .before .before .before .before
+
 -- the invariant, at the first or at the second end
 turn : {b : Bool} (c : tie.At-loop Inv-loop μ-loop) → c .loop .first ≡ b
-    → ends-answer b (c .loop .minus) (c .loop .size) (drop (c .loop .at) (c .before .before .before .before .before .args .text .now)) ≡ read (c .before .before .before .before .before .args .text .now)
-turn c e = ap (λ x. ends-answer x (c .loop .minus) (c .loop .size) (drop (c .loop .at) (c .before .before .before .before .before .args .text .now))) (sym e) ∙ c .loop .inv .1
+    → ends-answer b (c .loop .minus) (c .loop .size) (drop (c .loop .at) (from c .args .text .now)) ≡ read (from c .args .text .now)
+turn c e = ap (λ x. ends-answer x (c .loop .minus) (c .loop .size) (drop (c .loop .at) (from c .args .text .now))) (sym e) ∙ c .loop .inv .1
 
-found : {b : Bool} (c : tie.After-found Inv-loop μ-loop) (mark : ℕ) → c .before .before .before .before .loop .first ≡ b → cond b comma closing ≡ mark
-    → Is (drop (c .before .before .before .before .loop .at) (c .before .before .before .before .before .before .before .before .before .args .text .now)) (c .before .before .before .before .loop .at) mark (c .found .given .0 .0)
+found : {b : Bool} (c : tie.After-found Inv-loop μ-loop) (mark : ℕ) → at c .loop .first ≡ b → cond b comma closing ≡ mark
+    → Is (drop (at c .loop .at) (from (at c) .args .text .now)) (at c .loop .at) mark (c .found .given .0 .0)
 found c mark e k =
     let m : c .before .before .before .mark-behind .result ≡ mark = c .before .before .before .mark-behind .ensures ∙ ap (λ x. cond x comma closing) e ∙ k in
     rw m at (end-is _ _ _ _ (sym (c .found .given .1) ∙ c .before .before .read-end .ensures))

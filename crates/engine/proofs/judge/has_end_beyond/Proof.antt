@@ -1,5 +1,4 @@
 -- Only a constant has ends. Assumes nothing.
-use mathlib.Core.Path.{_∙_}
 use borrow.Author.Needs.{needs}
 use Rattle.engine.proofs.judge.has_end_beyond.Statement.{statement}
 use Rattle.engine.proofs.judge.has_end_beyond.Tie as tie

@@ -1,19 +1,19 @@
 -- Each turn keeps what the rest gives. Assumes nothing.
 use borrow.Author.Needs.{needs}
-use mathlib.Core.Path.{_≡_, refl, sym, ap, _∙_}
+use mathlib.Core.Path.{_≡_, refl, sym, _∙_}
 use mathlib.Core.List.{[]}
-use Prim.Native.Nat.{_+_, _-_, _≤_}
+use Prim.Native.Nat.{_-_, _≤_}
 use native.Mathlib.Omega.{arith}
 use lib.ListN.{length, drop, length-map}
 use Rattle.lists.specs.declared.Step.the-variants.{Constant}
-use Rattle.engine.specs.Program.{instruction, no-constant, code-of}
+use Rattle.engine.specs.Program.{instruction, no-constant, instructions-of, turns-of}
 use Rattle.engine.specs.Machine.{values-of, ran}
 use Rattle.engine.proofs.Running.{Going, going-enough, going-room, going-refused, going-put, going-end}
 use Rattle.engine.proofs.machine.run.Statement.{statement}
 use Rattle.engine.proofs.machine.run.Tie as tie
 
 abbrev Inv-loop : tie.InvT-loop
-Inv-loop program count way₀ stack₀ k₀ way stack k = (k ≤ count) × (stack .depth ≤ 16) × Going k (stack .depth) way (drop k (code-of program .instructions)) (drop k (code-of program .turns)) (values-of stack) (ran 0 way₀ (code-of program .instructions) (code-of program .turns) [])
+Inv-loop program count way₀ stack₀ k₀ way stack k = (k ≤ count) × (stack .depth ≤ 16) × Going k (stack .depth) way (drop k (instructions-of program)) (drop k (turns-of program)) (values-of stack) (ran 0 way₀ (instructions-of program) (turns-of program) [])
 
 abbrev μ-loop : tie.MeasureT-loop
 μ-loop program count way₀ stack₀ k₀ way stack k = count - k

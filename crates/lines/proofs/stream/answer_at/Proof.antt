@@ -1,13 +1,13 @@
 -- `stream::answer_at` meets its contract: the part that is lent is a line buffer, and the answer has a text. Assumes nothing.
-use mathlib.Core.Path.{_≡_, sym, ap, subst}
-use Prim.Native.Nat.{ℕ, _+_, _-_, _≤_}
+use mathlib.Core.Path.{sym, ap, subst}
+use Prim.Native.Nat.{_+_, _-_}
 use native.Mathlib.Omega.{arith}
 use lib.ListN.{length}
-use Rattle.directed.specs.Answer.{Outcome, outcome}
+use Rattle.directed.specs.Answer.{Outcome}
 use Rattle.text.specs.Over.{wrote-as}
-use Rattle.lines.specs.Line.{answer as answer-of}
 use Rattle.lines.specs.Buffer.{wrote-lent}
-use Rattle.lines.specs.Output.{with-number, output-line, Printable, answer-printable, output-short}
+use Rattle.lines.specs.Output.{with-number, output-line}
+use Rattle.lines.specs.OutputLaws.{Printable, answer-printable, output-short}
 use borrow.Author.Needs.{needs}
 use Rattle.lines.proofs.stream.answer_at.Statement.{statement}
 use Rattle.lines.proofs.stream.answer_at.Tie as tie
