@@ -44,11 +44,32 @@ pub const OPERATIONS: [Operation; 10] = [
 #[derive(Clone, PartialEq, Eq, Debug)]
 pub enum Case {
     /// Ends of the pairs in order; those that the operation doesn't take are 0.
-    Operation { operation: Operation, ends: [i32; 6], way: Way },
-    Read { text: Vec<u8> },
-    Write { ends: [i32; 2], room: usize },
-    List { list: Vec<u8>, way: Way },
-    Line { line: Vec<u8> },
+    Operation {
+        operation: Operation,
+        ends: [i32; 6],
+        way: Way,
+    },
+    Read {
+        text: Vec<u8>,
+    },
+    Write {
+        ends: [i32; 2],
+        room: usize,
+    },
+    List {
+        list: Vec<u8>,
+        way: Way,
+    },
+    Line {
+        line: Vec<u8>,
+    },
+}
+
+/// What both gave: the number of the cause (0: a result), and whether the pair is improper.
+#[derive(Clone, Copy, Debug)]
+pub struct Met {
+    pub cause: usize,
+    pub improper: bool,
 }
 
 /// What the library left and what it should have left.
@@ -75,7 +96,7 @@ fn returned_for(answer: Answer) -> u32 {
 }
 
 /// Compares the returned number and the lent result, with its margins.
-fn compare_result(expected: Answer, call: impl FnOnce(&mut [i32; 2]) -> u32) -> Result<usize, Difference> {
+fn compare_result(expected: Answer, call: impl FnOnce(&mut [i32; 2]) -> u32) -> Result<Met, Difference> {
     let before: [i32; MARGIN + 2 + MARGIN] = std::array::from_fn(canary);
     let mut memory = before;
     let lent: &mut [i32; 2] = (&mut memory[MARGIN..MARGIN + 2]).try_into().expect("two elements");
@@ -86,7 +107,8 @@ fn compare_result(expected: Answer, call: impl FnOnce(&mut [i32; 2]) -> u32) -> 
         after[MARGIN + 1] = upper as i32;
     }
     if returned == returned_for(expected) && memory == after {
-        return Ok((returned % 256) as usize);
+        let improper = matches!(expected, Answer::Value((lower, upper)) if lower > upper);
+        return Ok(Met { cause: (returned % 256) as usize, improper });
     }
     Err(Difference { library: shown(returned, &before, &memory), paper: shown(returned_for(expected), &before, &after) })
 }
@@ -113,7 +135,7 @@ fn with_margins<R>(bytes: &[u8], call: impl FnOnce(&[u8]) -> R) -> (R, bool) {
     (r, memory == before)
 }
 
-fn compare_bytes(expected: Answer, bytes: &[u8], call: impl FnOnce(&[u8], &mut [i32; 2]) -> u32) -> Result<usize, Difference> {
+fn compare_bytes(expected: Answer, bytes: &[u8], call: impl FnOnce(&[u8], &mut [i32; 2]) -> u32) -> Result<Met, Difference> {
     let (compared, untouched) = with_margins(bytes, |held| compare_result(expected, |result| call(held, result)));
     if untouched {
         return compared;
@@ -121,7 +143,7 @@ fn compare_bytes(expected: Answer, bytes: &[u8], call: impl FnOnce(&[u8], &mut [
     Err(Difference { library: "changed its input".to_string(), paper: "an input is only read".to_string() })
 }
 
-fn compare_write(ends: [i32; 2], room: usize) -> Result<usize, Difference> {
+fn compare_write(ends: [i32; 2], room: usize) -> Result<Met, Difference> {
     const UNTOLD: usize = usize::MAX - 7;
     let before: Vec<u8> = (0..MARGIN + room + MARGIN).map(|k| 0x80 | (k % 125) as u8).collect();
     let mut memory = before.clone();
@@ -136,7 +158,7 @@ fn compare_write(ends: [i32; 2], room: usize) -> Result<usize, Difference> {
         Err(number) => (number, UNTOLD),
     };
     if returned == number && told == length && memory == after {
-        return Ok(number as usize);
+        return Ok(Met { cause: number as usize, improper: number == 0 && ends[0] > ends[1] });
     }
     Err(Difference {
         library: format!("returns {returned}, tells {told}, memory \"{}\"", memory.escape_ascii()),
@@ -160,8 +182,8 @@ impl Case {
         }
     }
 
-    /// The number of the cause, 0 for a result, or what differs.
-    pub fn compare(&self, paper: Paper) -> Result<usize, Difference> {
+    /// What both gave, or what differs.
+    pub fn compare(&self, paper: Paper) -> Result<Met, Difference> {
         match self {
             Case::Operation { operation, ends, way } => {
                 let given: [(i64, i64); 3] = std::array::from_fn(|k| (ends[2 * k] as i64, ends[2 * k + 1] as i64));

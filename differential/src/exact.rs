@@ -99,7 +99,11 @@ pub enum Sign {
 
 impl Sign {
     fn times(self, other: Sign) -> Sign {
-        if self == other { Sign::Plus } else { Sign::Minus }
+        if self == other {
+            Sign::Plus
+        } else {
+            Sign::Minus
+        }
     }
 
     fn negated(self) -> Sign {
@@ -126,7 +130,11 @@ impl Pair {
 
     /// t(a): "+ if proper and − if improper", where "a pair with equal ends is proper".
     fn direction(self) -> Sign {
-        if self.lower <= self.upper { Sign::Plus } else { Sign::Minus }
+        if self.lower <= self.upper {
+            Sign::Plus
+        } else {
+            Sign::Minus
+        }
     }
 
     /// s(a): "It is zero-free if both ends are above 0 (sign +) or both below 0 (sign −). All other pairs hold zero".
@@ -195,10 +203,7 @@ impl Pair {
         match (a.sign(), b.sign()) {
             // "the lower end is (a with index −s(b)) times (b with index −s(a)); the upper end is (a with index s(b)) times
             // (b with index s(a))"
-            (Some(s), Some(t)) => Pair::new(
-                a.end(t.negated()).times(b.end(s.negated())),
-                a.end(t).times(b.end(s)),
-            ),
+            (Some(s), Some(t)) => Pair::new(a.end(t.negated()).times(b.end(s.negated())), a.end(t).times(b.end(s))),
             (Some(d), None) => zero_free_times(a, d, b),
             // "With the roles changed, the same."
             (None, Some(d)) => zero_free_times(b, d, a),

@@ -8,8 +8,30 @@ const RANGE: i64 = 2_000_000_000;
 
 /// Ends at which something changes: zero, the thousandth, the unit, the range, 32 bits, squares near the range.
 const BOUNDARIES: [i64; 24] = [
-    0, 1, -1, 2, -2, 3, -3, 999, 1000, 1001, -999, -1000, -1001, 44_721_359, 44_721_360, 1_414_213, 1_414_214, 1_999_999_999,
-    -1_999_999_999, RANGE, -RANGE, 1_000_000_000, -1_000_000_000, 2_000_000,
+    0,
+    1,
+    -1,
+    2,
+    -2,
+    3,
+    -3,
+    999,
+    1000,
+    1001,
+    -999,
+    -1000,
+    -1001,
+    44_721_359,
+    44_721_360,
+    1_414_213,
+    1_414_214,
+    1_999_999_999,
+    -1_999_999_999,
+    RANGE,
+    -RANGE,
+    1_000_000_000,
+    -1_000_000_000,
+    2_000_000,
 ];
 
 /// An end in the range.
@@ -23,7 +45,11 @@ fn end(r: &mut Random) -> i64 {
         _ => {
             let bits = r.below(31);
             let size = r.between(0, RANGE >> bits);
-            if r.percent(50) { size } else { -size }
+            if r.percent(50) {
+                size
+            } else {
+                -size
+            }
         }
     }
 }
@@ -32,7 +58,11 @@ fn end(r: &mut Random) -> i64 {
 fn end_beyond(r: &mut Random) -> i64 {
     let any = r.between(RANGE + 1, i32::MAX as i64);
     let size = r.one_of(&[RANGE + 1, RANGE + 2, i32::MAX as i64, any]);
-    if r.percent(50) { size } else { -size - r.between(0, 1) }
+    if r.percent(50) {
+        size
+    } else {
+        -size - r.between(0, 1)
+    }
 }
 
 /// A pair of any kind; equal or neighbouring ends are as likely as apart.
@@ -49,7 +79,11 @@ fn pair(r: &mut Random) -> (i64, i64) {
 fn zero_free(r: &mut Random) -> (i64, i64) {
     let size = |e: i64| e.abs().max(1);
     let (lower, upper) = pair(r);
-    if r.percent(50) { (size(lower), size(upper)) } else { (-size(lower), -size(upper)) }
+    if r.percent(50) {
+        (size(lower), size(upper))
+    } else {
+        (-size(lower), -size(upper))
+    }
 }
 
 fn clamped(x: i128) -> i64 {
@@ -106,7 +140,11 @@ fn pairs_for(operation: Operation, r: &mut Random) -> [(i64, i64); 3] {
 }
 
 fn way(r: &mut Random) -> Way {
-    if r.percent(50) { Way::Outward } else { Way::Inward }
+    if r.percent(50) {
+        Way::Outward
+    } else {
+        Way::Inward
+    }
 }
 
 fn operation_case(r: &mut Random) -> Case {
@@ -122,10 +160,8 @@ fn operation_case(r: &mut Random) -> Case {
         ends[2 * k] = p[k].0 as i32;
         ends[2 * k + 1] = p[k].1 as i32;
     }
-    let rounds = !matches!(
-        operation,
-        Operation::Negation | Operation::Opposite | Operation::Dual | Operation::Join | Operation::Meet
-    );
+    let rounds =
+        !matches!(operation, Operation::Negation | Operation::Opposite | Operation::Dual | Operation::Join | Operation::Meet);
     Case::Operation { operation, ends, way: if rounds { way(r) } else { Way::Outward } }
 }
 
@@ -180,7 +216,19 @@ fn damaged(mut bytes: Vec<u8>, alphabet: &[u8], r: &mut Random) -> Vec<u8> {
     bytes
 }
 
+/// Bytes of a valid input and more behind, far beyond what any of them needs.
+fn far_too_long(mut bytes: Vec<u8>, alphabet: &[u8], r: &mut Random) -> Vec<u8> {
+    for _ in 0..1 + r.index(5000) {
+        bytes.push(r.one_of(alphabet));
+    }
+    bytes
+}
+
 fn text(r: &mut Random) -> Vec<u8> {
+    if r.below(200) == 0 {
+        let text = valid_text(r);
+        return far_too_long(text, BYTES_OF_TEXT, r);
+    }
     match r.below(8) {
         0..=3 => valid_text(r),
         4 | 5 => damaged(valid_text(r), BYTES_OF_TEXT, r),
@@ -289,6 +337,11 @@ fn deep(r: &mut Random) -> Vec<u8> {
 }
 
 fn list(r: &mut Random) -> Vec<u8> {
+    if r.below(200) == 0 {
+        let steps = 1 + r.index(64);
+        let list = built(steps, 16, r);
+        return far_too_long(list, &[1, 4, 5, 6, 8, 255], r);
+    }
     match r.below(16) {
         0 => {
             let length = r.index(40);
@@ -375,6 +428,10 @@ fn lengthened(mut line: Vec<u8>, r: &mut Random) -> Vec<u8> {
 }
 
 pub fn line(r: &mut Random) -> Vec<u8> {
+    if r.below(200) == 0 {
+        let line = valid_line(r);
+        return far_too_long(line, b" 0]", r);
+    }
     match r.below(16) {
         0..=8 => valid_line(r),
         9 | 10 => {

@@ -56,8 +56,27 @@ fn stop(message: &str) -> ! {
     std::process::exit(1)
 }
 
-/// Calls by function and cause.
-type Counts = [[u64; 13]; FUNCTIONS.len()];
+/// Calls of one function, by cause, and how many results were improper.
+#[derive(Clone, Copy, Default)]
+struct Row {
+    causes: [u64; 13],
+    improper: u64,
+}
+
+impl Row {
+    fn add(&mut self, other: &Row) {
+        self.improper += other.improper;
+        for (sum, n) in self.causes.iter_mut().zip(other.causes) {
+            *sum += n;
+        }
+    }
+
+    fn calls(&self) -> u64 {
+        self.causes.iter().sum()
+    }
+}
+
+type Counts = [Row; FUNCTIONS.len()];
 
 struct Failure {
     case: Case,
@@ -69,13 +88,13 @@ fn compare_random(seed: u64, comparisons: u64, paper: Paper) -> Result<Counts, F
     let next = AtomicU64::new(0);
     // The lowest block that fails, so that a seed always shows the same failure.
     let failed = AtomicU64::new(u64::MAX);
-    let total: Mutex<Counts> = Mutex::new([[0; 13]; FUNCTIONS.len()]);
+    let total: Mutex<Counts> = Mutex::new(Counts::default());
     let failure: Mutex<Option<(u64, Case)>> = Mutex::new(None);
     let cores = std::thread::available_parallelism().map_or(1, |n| n.get());
     std::thread::scope(|threads| {
         for _ in 0..cores {
             threads.spawn(|| {
-                let mut counts: Counts = [[0; 13]; FUNCTIONS.len()];
+                let mut counts = Counts::default();
                 loop {
                     let block = next.fetch_add(1, Ordering::Relaxed);
                     if block * BLOCK >= comparisons || block > failed.load(Ordering::Relaxed) {
@@ -85,7 +104,11 @@ fn compare_random(seed: u64, comparisons: u64, paper: Paper) -> Result<Counts, F
                     for _ in 0..BLOCK.min(comparisons - block * BLOCK) {
                         let case = generate::case(&mut r);
                         match case.compare(paper) {
-                            Ok(cause) => counts[case.function()][cause] += 1,
+                            Ok(met) => {
+                                let row = &mut counts[case.function()];
+                                row.causes[met.cause] += 1;
+                                row.improper += met.improper as u64;
+                            }
                             Err(_) => {
                                 failed.fetch_min(block, Ordering::Relaxed);
                                 let mut first = failure.lock().unwrap();
@@ -98,8 +121,8 @@ fn compare_random(seed: u64, comparisons: u64, paper: Paper) -> Result<Counts, F
                     }
                 }
                 let mut total = total.lock().unwrap();
-                for (sum, own) in total.iter_mut().flatten().zip(counts.iter().flatten()) {
-                    *sum += own;
+                for (sum, own) in total.iter_mut().zip(&counts) {
+                    sum.add(own);
                 }
             });
         }
@@ -115,15 +138,16 @@ fn compare_random(seed: u64, comparisons: u64, paper: Paper) -> Result<Counts, F
 }
 
 fn print_counts(counts: &Counts) {
-    print!("{:16}{:>11}{:>10}", "function", "calls", "result");
+    print!("{:16}{:>11}{:>10}{:>10}", "function", "calls", "result", "improper");
     for cause in 1..=12 {
         print!("{:>9}", format!("R {cause}"));
     }
     println!();
     for (function, row) in FUNCTIONS.iter().zip(counts) {
-        print!("{:16}{:>11}{:>10}", function.name, row.iter().sum::<u64>(), row[0]);
-        for n in &row[1..] {
-            if *n == 0 { print!("{:>9}", "-") } else { print!("{n:>9}") }
+        print!("{:16}{:>11}{:>10}{:>10}", function.name, row.calls(), row.causes[0], row.improper);
+        for n in &row.causes[1..] {
+            let shown = if *n == 0 { "-".to_string() } else { n.to_string() };
+            print!("{shown:>9}");
         }
         println!();
     }
@@ -132,9 +156,9 @@ fn print_counts(counts: &Counts) {
 /// Every cause that the paper gives a function has to have come, and no other.
 fn check_causes(counts: &Counts) {
     for (function, row) in FUNCTIONS.iter().zip(counts) {
-        for (cause, n) in row.iter().enumerate() {
+        for (cause, n) in row.causes.iter().enumerate() {
             if (*n > 0) != function.causes.contains(&cause) {
-                stop(&format!("FAILED: {} came to {cause} {n} times", function.name));
+                stop(&format!("FAILED: {} came to the cause {cause} {n} times", function.name));
             }
         }
     }
@@ -186,6 +210,6 @@ fn main() {
     }
     println!("the paper's five mistakes, each made by the reference and found, with the smallest input:");
     check_mistakes(options.seed);
-    let total: u64 = counts.iter().flatten().sum::<u64>() + 2 * solved.equations;
+    let total: u64 = counts.iter().map(Row::calls).sum::<u64>() + 2 * solved.equations;
     println!("{total} comparisons, no difference; {:.1} s", began.elapsed().as_secs_f64());
 }

@@ -325,7 +325,11 @@ fn steps_of(list: &[u8]) -> Result<Vec<Step>, (u32, u32)> {
         waiting.push(steps.len());
         steps.push(Step { action, operands });
     }
-    if waiting.len() == 1 { Ok(steps) } else { Err((11, steps.len() as u32)) }
+    if waiting.len() == 1 {
+        Ok(steps)
+    } else {
+        Err((11, steps.len() as u32))
+    }
 }
 
 /// "Text: 1, 2."
@@ -385,5 +389,9 @@ pub fn write(pair: Ends, room: usize) -> Result<Vec<u8>, u32> {
         return Err(2);
     }
     let text = text_of(pair).into_bytes();
-    if room < text.len() { Err(3) } else { Ok(text) }
+    if room < text.len() {
+        Err(3)
+    } else {
+        Ok(text)
+    }
 }

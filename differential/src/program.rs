@@ -8,11 +8,8 @@ use std::process::{Command, Stdio};
 
 /// Runs the program on an input, written in pieces of random sizes so that reads end anywhere.
 fn run(path: &str, input: &[u8], r: &mut Random) -> Result<Vec<u8>, String> {
-    let mut child = Command::new(path)
-        .stdin(Stdio::piped())
-        .stdout(Stdio::piped())
-        .spawn()
-        .map_err(|e| format!("{path}: {e}"))?;
+    let mut child =
+        Command::new(path).stdin(Stdio::piped()).stdout(Stdio::piped()).spawn().map_err(|e| format!("{path}: {e}"))?;
     let mut stdin = child.stdin.take().ok_or("no standard input")?;
     let mut pieces = Vec::new();
     let mut at = 0;

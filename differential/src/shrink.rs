@@ -49,7 +49,9 @@ fn smaller_constants(list: &[u8]) -> Vec<Vec<u8>> {
     }
     if ends.len() <= 8 {
         for (k, j) in ends.iter().flat_map(|k| ends.iter().map(move |j| (*k, *j))) {
-            found.extend(SMALL.iter().flat_map(|e| SMALL.iter().map(move |f| (*e, *f))).map(|(e, f)| with(&with(list, k, e), j, f)));
+            found.extend(
+                SMALL.iter().flat_map(|e| SMALL.iter().map(move |f| (*e, *f))).map(|(e, f)| with(&with(list, k, e), j, f)),
+            );
         }
     }
     found
@@ -117,8 +119,10 @@ fn smaller_bytes(bytes: &[u8]) -> Vec<Vec<u8>> {
 fn smaller(case: &Case) -> Vec<Case> {
     match case {
         Case::Operation { operation, ends, way } => {
-            let mut found: Vec<Case> =
-                smaller_numbers(ends).into_iter().map(|ends| Case::Operation { operation: *operation, ends, way: *way }).collect();
+            let mut found: Vec<Case> = smaller_numbers(ends)
+                .into_iter()
+                .map(|ends| Case::Operation { operation: *operation, ends, way: *way })
+                .collect();
             found.push(Case::Operation { operation: *operation, ends: *ends, way: Way::Outward });
             found
         }
