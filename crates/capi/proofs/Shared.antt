@@ -1,6 +1,6 @@
 -- What a call leaves, by the answer that it gives. Assumes nothing.
-use mathlib.Core.Path.{_≡_, refl}
-use mathlib.Core.List.{List, [], _∷_}
+use mathlib.Core.Path.{_≡_, ap}
+use mathlib.Core.List.{List}
 use Prim.Native.Nat.{ℕ}
 use lib.IntN.{ℤ}
 use mir.Syntax.{w32}
@@ -8,38 +8,29 @@ use mir.Val.{SFits, toZ, ofZ}
 use mir.Facts.{toZ-ofZ}
 use Rattle.directed.specs.declared.Interval.{Interval}
 use Rattle.directed.specs.Thousandths.{interval}
-use Rattle.directed.specs.Answer.{Outcome, value, refusal}
-use Rattle.lists.specs.Lists as lists
+use Rattle.directed.specs.Answer.{Outcome}
+use Rattle.lists.specs.Lists.{Result, value, refusal}
 use Rattle.text.specs.Answer.{Told, length-told, refusal-told, Writing}
-use Rattle.capi.specs.Effect.{Effect, effect, done, effect-of, with-step, list-effect-of, LengthEffect, length-effect, length-effect-of, writing-effect, writing-effect-of}
+use Rattle.capi.specs.Effect.{Effect, effect, done, effect-of, stepless, with-step, length-effect, length-effect-of, writing-effect, writing-effect-of}
 
 -- an interval made of two numbers that are given
 pub made : {a : Interval} {l u : ℤ} → SFits w32 l → SFits w32 u → a ≡ interval (toZ w32 (ofZ w32 l)) (toZ w32 (ofZ w32 u)) → a ≡ interval l u
 made fits-l fits-u p = rw (toZ-ofZ fits-l, toZ-ofZ fits-u) at p
 
-module _ (before : List ℤ) {o : Outcome} where
-  pub effect-value : {a : Interval} {l : Effect} → o ≡ value a → l ≡ done a → l ≡ effect-of o before
+module _ (before : List ℤ) {o : Result} where
+  pub effect-value : {a : Interval} {e : Effect} → o ≡ value a → e ≡ done a → e ≡ effect-of o before
   unfolding effect-of
   effect-value p q = rw p q
 
-  pub effect-refusal : {k n : ℕ} → o ≡ refusal k → n ≡ k → effect n before ≡ effect-of o before
+  pub effect-refusal : {k step n : ℕ} → o ≡ refusal k step → n ≡ with-step k step → effect n before ≡ effect-of o before
   unfolding effect-of
   effect-refusal p q = rw (p, q)
 
-  pub effect-same : {p : Outcome} {l : Effect} → l ≡ effect-of o before → o ≡ p → l ≡ effect-of p before
+  pub effect-same : {p : Result} {e : Effect} → e ≡ effect-of o before → o ≡ p → e ≡ effect-of p before
   effect-same given same = rw same at given
 
-module _ (before : List ℤ) {o : lists.Result} where
-  pub list-effect-value : {a : Interval} {l : Effect} → o ≡ lists.value a → l ≡ done a → l ≡ list-effect-of o before
-  unfolding list-effect-of
-  list-effect-value p q = rw p q
-
-  pub list-effect-refusal : {k step n : ℕ} → o ≡ lists.refusal k step → n ≡ with-step k step → effect n before ≡ list-effect-of o before
-  unfolding list-effect-of
-  list-effect-refusal p q = rw (p, q)
-
-  pub list-effect-same : {p : lists.Result} {l : Effect} → l ≡ list-effect-of o before → o ≡ p → l ≡ list-effect-of p before
-  list-effect-same given same = rw same at given
+pub stepless-same : (before : List ℤ) {o p : Outcome} {e : Effect} → e ≡ effect-of (stepless o) before → o ≡ p → e ≡ effect-of (stepless p) before
+stepless-same before given same = effect-same before given (ap stepless same)
 
 module _ (before : ℕ) {t : Told} where
   pub length-effect-told : {n : ℕ} → t ≡ length-told n → length-effect 0 n ≡ length-effect-of t before

@@ -6,8 +6,8 @@ use lib.IntN.{ℤ}
 use Rattle.directed.specs.declared.Interval.{Interval}
 use Rattle.directed.specs.declared.Rounding.{Rounding}
 use Rattle.directed.specs.declared.Rounding.the-variants.{Outward, Inward}
-use Rattle.directed.specs.Answer.{Outcome, value, refusal}
-use Rattle.lists.specs.Lists as lists
+use Rattle.directed.specs.Answer.{Outcome}
+use Rattle.lists.specs.Lists.{Result, value, refusal, at}
 use Rattle.text.specs.Answer.{Told, length-told, refusal-told, Writing}
 
 -- 01's way, as C says it: `inward`
@@ -26,19 +26,19 @@ effect n ends = record { returned = n; result = ends }
 abbrev pub done : Interval → Effect
 done a = effect 0 (a .lower ∷ a .upper ∷ [])
 
--- A value goes to the lent ends, lower then upper, and 0 is returned. "a refusal alters no byte of theirs": its number is returned, and the lent
--- ends stay as they were.
-unfoldable pub effect-of : Outcome → List ℤ → Effect
-effect-of (value a) before = done a
-effect-of (refusal k) before = effect k before
-
--- "number; in a list also the step": both in the returned number, so that a refused list leaves the lent ends as they were too
+-- "number; in a list also the step": both in the returned number, so that a refused list, too, leaves every lent byte as it was
 abbrev pub with-step : ℕ → ℕ → ℕ
 with-step number step = number + 256 * step
 
-unfoldable pub list-effect-of : lists.Result → List ℤ → Effect
-list-effect-of (lists.value a) before = done a
-list-effect-of (lists.refusal k step) before = effect (with-step k step) before
+-- A value goes to the lent ends, lower then upper, and 0 is returned. "a refusal alters no byte of theirs": its number is returned with its step,
+-- and the lent ends stay as they were.
+unfoldable pub effect-of : Result → List ℤ → Effect
+effect-of (value a) before = done a
+effect-of (refusal k step) before = effect (with-step k step) before
+
+-- where there are no steps, step 0
+abbrev pub stepless : Outcome → Result
+stepless o = at 0 o
 
 -- Writing a text: its length goes to a lent number of its own.
 pub record LengthEffect : Type 0 where

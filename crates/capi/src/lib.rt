@@ -9,7 +9,7 @@ ghost use Rattle.directed.specs.Equation as meaning;
 ghost use Rattle.text.specs.Answer.{told, read, write};
 ghost use Rattle.lists.specs.Lists as list;
 ghost use Rattle.lines.specs.Line as line;
-ghost use Rattle.capi.specs.Effect.{way, effect, done, effect-of, list-effect-of, length-effect, length-effect-of, writing-effect, writing-effect-of};
+ghost use Rattle.capi.specs.Effect.{way, effect, done, effect-of, stepless, length-effect, length-effect-of, writing-effect, writing-effect-of};
 use directed::Answer;
 use directed::Interval;
 use directed::Rounding;
@@ -37,7 +37,7 @@ fn put(a: Interval, result: &mut [i32; 2]) -> u32
 
 // A value goes to the lent ends; a refusal leaves them as they are.
 fn give(answer: Answer, result: &mut [i32; 2]) -> u32
-    ensures { λ r. ⌜ effect r (now (result .exit)) ≡ effect-of (outcome answer) (now (result .entry)) ⌝ }
+    ensures { λ r. ⌜ effect r (now (result .exit)) ≡ effect-of (stepless (outcome answer)) (now (result .entry)) ⌝ }
 {
     match answer {
         Answer::Value(a) => put(a, result),
@@ -49,28 +49,28 @@ fn give(answer: Answer, result: &mut [i32; 2]) -> u32
 
 #[no_mangle]
 pub extern "C" fn dzb_negation(lower: i32, upper: i32, result: &mut [i32; 2]) -> u32
-    ensures { λ r. ⌜ effect r (now (result .exit)) ≡ effect-of (answer.negation (interval lower upper)) (now (result .entry)) ⌝ }
+    ensures { λ r. ⌜ effect r (now (result .exit)) ≡ effect-of (stepless (answer.negation (interval lower upper))) (now (result .entry)) ⌝ }
 {
     give(arithmetic::negation(Interval::new(lower, upper)), result)
 }
 
 #[no_mangle]
 pub extern "C" fn dzb_opposite(lower: i32, upper: i32, result: &mut [i32; 2]) -> u32
-    ensures { λ r. ⌜ effect r (now (result .exit)) ≡ effect-of (answer.opposite (interval lower upper)) (now (result .entry)) ⌝ }
+    ensures { λ r. ⌜ effect r (now (result .exit)) ≡ effect-of (stepless (answer.opposite (interval lower upper))) (now (result .entry)) ⌝ }
 {
     give(arithmetic::opposite(Interval::new(lower, upper)), result)
 }
 
 #[no_mangle]
 pub extern "C" fn dzb_dual(lower: i32, upper: i32, result: &mut [i32; 2]) -> u32
-    ensures { λ r. ⌜ effect r (now (result .exit)) ≡ effect-of (answer.dual (interval lower upper)) (now (result .entry)) ⌝ }
+    ensures { λ r. ⌜ effect r (now (result .exit)) ≡ effect-of (stepless (answer.dual (interval lower upper))) (now (result .entry)) ⌝ }
 {
     give(arithmetic::dual(Interval::new(lower, upper)), result)
 }
 
 #[no_mangle]
 pub extern "C" fn dzb_join(al: i32, au: i32, bl: i32, bu: i32, result: &mut [i32; 2]) -> u32
-    ensures { λ r. ⌜ effect r (now (result .exit)) ≡ effect-of (answer.join (interval al au) (interval bl bu)) (now (result .entry)) ⌝ }
+    ensures { λ r. ⌜ effect r (now (result .exit)) ≡ effect-of (stepless (answer.join (interval al au) (interval bl bu))) (now (result .entry)) ⌝ }
 {
     let a = Interval::new(al, au);
     let b = Interval::new(bl, bu);
@@ -79,7 +79,7 @@ pub extern "C" fn dzb_join(al: i32, au: i32, bl: i32, bu: i32, result: &mut [i32
 
 #[no_mangle]
 pub extern "C" fn dzb_meet(al: i32, au: i32, bl: i32, bu: i32, result: &mut [i32; 2]) -> u32
-    ensures { λ r. ⌜ effect r (now (result .exit)) ≡ effect-of (answer.meet (interval al au) (interval bl bu)) (now (result .entry)) ⌝ }
+    ensures { λ r. ⌜ effect r (now (result .exit)) ≡ effect-of (stepless (answer.meet (interval al au) (interval bl bu))) (now (result .entry)) ⌝ }
 {
     let a = Interval::new(al, au);
     let b = Interval::new(bl, bu);
@@ -95,7 +95,7 @@ pub extern "C" fn dzb_sum(
     inward: bool,
     result: &mut [i32; 2],
 ) -> u32
-    ensures { λ r. ⌜ effect r (now (result .exit)) ≡ effect-of (answer.sum (way inward) (interval al au) (interval bl bu)) (now (result .entry)) ⌝ }
+    ensures { λ r. ⌜ effect r (now (result .exit)) ≡ effect-of (stepless (answer.sum (way inward) (interval al au) (interval bl bu))) (now (result .entry)) ⌝ }
 {
     let a = Interval::new(al, au);
     let b = Interval::new(bl, bu);
@@ -111,7 +111,7 @@ pub extern "C" fn dzb_difference(
     inward: bool,
     result: &mut [i32; 2],
 ) -> u32
-    ensures { λ r. ⌜ effect r (now (result .exit)) ≡ effect-of (answer.difference (way inward) (interval al au) (interval bl bu)) (now (result .entry)) ⌝ }
+    ensures { λ r. ⌜ effect r (now (result .exit)) ≡ effect-of (stepless (answer.difference (way inward) (interval al au) (interval bl bu))) (now (result .entry)) ⌝ }
 {
     let a = Interval::new(al, au);
     let b = Interval::new(bl, bu);
@@ -127,7 +127,7 @@ pub extern "C" fn dzb_product(
     inward: bool,
     result: &mut [i32; 2],
 ) -> u32
-    ensures { λ r. ⌜ effect r (now (result .exit)) ≡ effect-of (answer.product (way inward) (interval al au) (interval bl bu)) (now (result .entry)) ⌝ }
+    ensures { λ r. ⌜ effect r (now (result .exit)) ≡ effect-of (stepless (answer.product (way inward) (interval al au) (interval bl bu))) (now (result .entry)) ⌝ }
 {
     let a = Interval::new(al, au);
     let b = Interval::new(bl, bu);
@@ -143,7 +143,7 @@ pub extern "C" fn dzb_quotient(
     inward: bool,
     result: &mut [i32; 2],
 ) -> u32
-    ensures { λ r. ⌜ effect r (now (result .exit)) ≡ effect-of (answer.quotient (way inward) (interval al au) (interval bl bu)) (now (result .entry)) ⌝ }
+    ensures { λ r. ⌜ effect r (now (result .exit)) ≡ effect-of (stepless (answer.quotient (way inward) (interval al au) (interval bl bu))) (now (result .entry)) ⌝ }
 {
     let a = Interval::new(al, au);
     let b = Interval::new(bl, bu);
@@ -162,7 +162,7 @@ pub extern "C" fn dzb_equation(
     inward: bool,
     result: &mut [i32; 2],
 ) -> u32
-    ensures { λ r. ⌜ effect r (now (result .exit)) ≡ effect-of (meaning.equation (way inward) (interval al au) (interval cl cu) (interval bl bu)) (now (result .entry)) ⌝ }
+    ensures { λ r. ⌜ effect r (now (result .exit)) ≡ effect-of (stepless (meaning.equation (way inward) (interval al au) (interval cl cu) (interval bl bu))) (now (result .entry)) ⌝ }
 {
     let a = Interval::new(al, au);
     let c = Interval::new(cl, cu);
@@ -175,7 +175,7 @@ pub extern "C" fn dzb_equation(
 // Causes 1, 2.
 #[no_mangle]
 pub extern "C" fn dzb_read(bytes: &[u8], result: &mut [i32; 2]) -> u32
-    ensures { λ r. ⌜ effect r (now (result .exit)) ≡ effect-of (read (now (bytes .entry))) (now (result .entry)) ⌝ }
+    ensures { λ r. ⌜ effect r (now (result .exit)) ≡ effect-of (stepless (read (now (bytes .entry)))) (now (result .entry)) ⌝ }
 {
     give(text::read(bytes), result)
 }
@@ -205,7 +205,7 @@ pub extern "C" fn dzb_write(lower: i32, upper: i32, buffer: &mut [u8], length: &
 
 fn give_list(answer: ListAnswer, result: &mut [i32; 2]) -> u32
     requires { ⌜ ((n k : ℕ) → list.outcome answer ≡ list.refusal n k → k ≤ 64) ⌝ }
-    ensures { λ r. ⌜ effect r (now (result .exit)) ≡ list-effect-of (list.outcome answer) (now (result .entry)) ⌝ }
+    ensures { λ r. ⌜ effect r (now (result .exit)) ≡ effect-of (list.outcome answer) (now (result .entry)) ⌝ }
 {
     match answer {
         ListAnswer::Value(a) => put(a, result),
@@ -216,7 +216,7 @@ fn give_list(answer: ListAnswer, result: &mut [i32; 2]) -> u32
 // Causes 10, 6, 7, 2, 8, 9, then 11, then 4, each with its step.
 #[no_mangle]
 pub extern "C" fn dzb_list(bytes: &[u8], inward: bool, result: &mut [i32; 2]) -> u32
-    ensures { λ r. ⌜ effect r (now (result .exit)) ≡ list-effect-of (list.answer 16 64 (way inward) (now (bytes .entry))) (now (result .entry)) ⌝ }
+    ensures { λ r. ⌜ effect r (now (result .exit)) ≡ effect-of (list.answer 16 64 (way inward) (now (bytes .entry))) (now (result .entry)) ⌝ }
 {
     give_list(engine::evaluate(bytes, rounding(inward)), result)
 }
@@ -224,7 +224,7 @@ pub extern "C" fn dzb_list(bytes: &[u8], inward: bool, result: &mut [i32; 2]) ->
 // A line without its byte 10: causes 12, 6, then of each pair 1, 2, then 5, 4.
 #[no_mangle]
 pub extern "C" fn dzb_line(bytes: &[u8], result: &mut [i32; 2]) -> u32
-    ensures { λ r. ⌜ effect r (now (result .exit)) ≡ effect-of (line.answer (now (bytes .entry))) (now (result .entry)) ⌝ }
+    ensures { λ r. ⌜ effect r (now (result .exit)) ≡ effect-of (stepless (line.answer (now (bytes .entry)))) (now (result .entry)) ⌝ }
 {
     give(lines::answer(bytes), result)
 }

@@ -1,6 +1,6 @@
 -- `capi::dzb_dual` gives the answer of `arithmetic::dual`. Assumes nothing.
 use borrow.Author.Needs.{needs}
-use Rattle.capi.proofs.Shared.{made, effect-same}
+use Rattle.capi.proofs.Shared.{made, stepless-same}
 use Rattle.capi.proofs.dzb_dual.Statement.{statement}
 use Rattle.capi.proofs.dzb_dual.Tie as tie
 
@@ -17,7 +17,7 @@ returns : tie.Need-returns
 returns c =
     let called = c .before .before in
     let start = called .before .before in
-    effect-same _ (c .give .ensures) (rw (made (start .fits .lower) (start .fits .upper) (called .before .new .ensures)) at (called .dual .ensures))
+    stepless-same _ (c .give .ensures) (rw (made (start .fits .lower) (start .fits .upper) (called .before .new .ensures)) at (called .dual .ensures))
 
 pub dzb-dual-spec : {M : Type 1} → statement M
 dzb-dual-spec = tie.close (tie.spec new-requires dual-requires give-requires returns)

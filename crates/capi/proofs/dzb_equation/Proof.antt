@@ -1,6 +1,6 @@
 -- `capi::dzb_equation` gives the answer of `arithmetic::equation`. Assumes nothing.
 use borrow.Author.Needs.{needs}
-use Rattle.capi.proofs.Shared.{made, effect-same}
+use Rattle.capi.proofs.Shared.{made, stepless-same}
 use Rattle.capi.proofs.dzb_equation.Statement.{statement}
 use Rattle.capi.proofs.dzb_equation.Tie as tie
 
@@ -27,7 +27,7 @@ returns c =
     let called = c .before .before in
     let intervals = called .before .before in
     let start = intervals .before .before .before in
-    effect-same
+    stepless-same
     _
     (c .give .ensures)
     (rw (called .before .rounding .ensures, made (start .fits .al) (start .fits .au) (intervals .before .before .new .ensures), made (start .fits .cl) (start .fits .cu) (intervals .before .new2 .ensures), made (start .fits .bl) (start .fits .bu) (intervals .new3 .ensures)) at (called .equation .ensures))

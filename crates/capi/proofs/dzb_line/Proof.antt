@@ -1,6 +1,6 @@
 -- `capi::dzb_line` gives the answer of `lines::answer`. Assumes nothing.
 use borrow.Author.Needs.{needs}
-use Rattle.capi.proofs.Shared.{effect-same}
+use Rattle.capi.proofs.Shared.{stepless-same}
 use Rattle.capi.proofs.dzb_line.Statement.{statement}
 use Rattle.capi.proofs.dzb_line.Tie as tie
 
@@ -11,7 +11,7 @@ give-requires : tie.Need-give-requires
 give-requires c κs = search needs
 
 returns : tie.Need-returns
-returns c = effect-same _ (c .give .ensures) (c .before .before .answer .ensures)
+returns c = stepless-same _ (c .give .ensures) (c .before .before .answer .ensures)
 
 pub dzb-line-spec : {M : Type 1} → statement M
 dzb-line-spec = tie.close (tie.spec answer-requires give-requires returns)

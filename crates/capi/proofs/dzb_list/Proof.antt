@@ -2,7 +2,7 @@
 use borrow.Author.Needs.{needs}
 use mathlib.Core.Path.{sym, _∙_}
 use Rattle.capi.specs.StepLaws.{step-within}
-use Rattle.capi.proofs.Shared.{list-effect-same}
+use Rattle.capi.proofs.Shared.{effect-same}
 use Rattle.capi.proofs.dzb_list.Statement.{statement}
 use Rattle.capi.proofs.dzb_list.Tie as tie
 
@@ -18,7 +18,7 @@ give-list-requires c κs n k refused = step-within 16 64 _ _ n k (sym (c .before
 returns : tie.Need-returns
 returns c =
     let called = c .before .before in
-    list-effect-same _ (c .give-list .ensures) (rw (called .before .rounding .ensures) at (called .evaluate .ensures))
+    effect-same _ (c .give-list .ensures) (rw (called .before .rounding .ensures) at (called .evaluate .ensures))
 
 pub dzb-list-spec : {M : Type 1} → statement M
 dzb-list-spec = tie.close (tie.spec rounding-requires evaluate-requires give-list-requires returns)

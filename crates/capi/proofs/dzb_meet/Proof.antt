@@ -1,6 +1,6 @@
 -- `capi::dzb_meet` gives the answer of `arithmetic::meet`. Assumes nothing.
 use borrow.Author.Needs.{needs}
-use Rattle.capi.proofs.Shared.{made, effect-same}
+use Rattle.capi.proofs.Shared.{made, stepless-same}
 use Rattle.capi.proofs.dzb_meet.Statement.{statement}
 use Rattle.capi.proofs.dzb_meet.Tie as tie
 
@@ -20,7 +20,7 @@ returns : tie.Need-returns
 returns c =
     let called = c .before .before in
     let start = called .before .before .before in
-    effect-same
+    stepless-same
     _
     (c .give .ensures)
     (rw (made (start .fits .al) (start .fits .au) (called .before .before .new .ensures), made (start .fits .bl) (start .fits .bu) (called .before .new2 .ensures)) at (called .meet .ensures))

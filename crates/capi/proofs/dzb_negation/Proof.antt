@@ -1,6 +1,6 @@
 -- `capi::dzb_negation` gives the answer of `arithmetic::negation`. Assumes nothing.
 use borrow.Author.Needs.{needs}
-use Rattle.capi.proofs.Shared.{made, effect-same}
+use Rattle.capi.proofs.Shared.{made, stepless-same}
 use Rattle.capi.proofs.dzb_negation.Statement.{statement}
 use Rattle.capi.proofs.dzb_negation.Tie as tie
 
@@ -17,7 +17,7 @@ returns : tie.Need-returns
 returns c =
     let called = c .before .before in
     let start = called .before .before in
-    effect-same _ (c .give .ensures) (rw (made (start .fits .lower) (start .fits .upper) (called .before .new .ensures)) at (called .negation .ensures))
+    stepless-same _ (c .give .ensures) (rw (made (start .fits .lower) (start .fits .upper) (called .before .new .ensures)) at (called .negation .ensures))
 
 pub dzb-negation-spec : {M : Type 1} → statement M
 dzb-negation-spec = tie.close (tie.spec new-requires negation-requires give-requires returns)

@@ -1,6 +1,6 @@
 -- `capi::dzb_opposite` gives the answer of `arithmetic::opposite`. Assumes nothing.
 use borrow.Author.Needs.{needs}
-use Rattle.capi.proofs.Shared.{made, effect-same}
+use Rattle.capi.proofs.Shared.{made, stepless-same}
 use Rattle.capi.proofs.dzb_opposite.Statement.{statement}
 use Rattle.capi.proofs.dzb_opposite.Tie as tie
 
@@ -17,7 +17,7 @@ returns : tie.Need-returns
 returns c =
     let called = c .before .before in
     let start = called .before .before in
-    effect-same _ (c .give .ensures) (rw (made (start .fits .lower) (start .fits .upper) (called .before .new .ensures)) at (called .opposite .ensures))
+    stepless-same _ (c .give .ensures) (rw (made (start .fits .lower) (start .fits .upper) (called .before .new .ensures)) at (called .opposite .ensures))
 
 pub dzb-opposite-spec : {M : Type 1} → statement M
 dzb-opposite-spec = tie.close (tie.spec new-requires opposite-requires give-requires returns)

@@ -1,6 +1,6 @@
 -- `capi::dzb_read` gives the answer of `text::read`. Assumes nothing.
 use borrow.Author.Needs.{needs}
-use Rattle.capi.proofs.Shared.{effect-same}
+use Rattle.capi.proofs.Shared.{stepless-same}
 use Rattle.capi.proofs.dzb_read.Statement.{statement}
 use Rattle.capi.proofs.dzb_read.Tie as tie
 
@@ -11,7 +11,7 @@ give-requires : tie.Need-give-requires
 give-requires c κs = search needs
 
 returns : tie.Need-returns
-returns c = effect-same _ (c .give .ensures) (c .before .before .read .ensures)
+returns c = stepless-same _ (c .give .ensures) (c .before .before .read .ensures)
 
 pub dzb-read-spec : {M : Type 1} → statement M
 dzb-read-spec = tie.close (tie.spec read-requires give-requires returns)

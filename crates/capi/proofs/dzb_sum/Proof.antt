@@ -1,6 +1,6 @@
 -- `capi::dzb_sum` gives the answer of `arithmetic::sum`. Assumes nothing.
 use borrow.Author.Needs.{needs}
-use Rattle.capi.proofs.Shared.{made, effect-same}
+use Rattle.capi.proofs.Shared.{made, stepless-same}
 use Rattle.capi.proofs.dzb_sum.Statement.{statement}
 use Rattle.capi.proofs.dzb_sum.Tie as tie
 
@@ -24,7 +24,7 @@ returns c =
     let called = c .before .before in
     let intervals = called .before .before in
     let start = intervals .before .before in
-    effect-same
+    stepless-same
     _
     (c .give .ensures)
     (rw (called .before .rounding .ensures, made (start .fits .al) (start .fits .au) (intervals .before .new .ensures), made (start .fits .bl) (start .fits .bu) (intervals .new2 .ensures)) at (called .sum .ensures))
