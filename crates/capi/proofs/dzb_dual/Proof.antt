@@ -4,15 +4,6 @@ use Rattle.capi.proofs.Shared.{made, stepless-same}
 use Rattle.capi.proofs.dzb_dual.Statement.{statement}
 use Rattle.capi.proofs.dzb_dual.Tie as tie
 
-new-requires : tie.Need-new-requires
-new-requires c κs = search needs
-
-dual-requires : tie.Need-dual-requires
-dual-requires c κs = search needs
-
-give-requires : tie.Need-give-requires
-give-requires c κs = search needs
-
 returns : tie.Need-returns
 returns c =
     let called = c .before .before in
@@ -20,4 +11,4 @@ returns c =
     stepless-same _ (c .give .ensures) (rw (made (start .fits .lower) (start .fits .upper) (called .before .new .ensures)) at (called .dual .ensures))
 
 pub dzb-dual-spec : {M : Type 1} → statement M
-dzb-dual-spec = tie.close (tie.spec new-requires dual-requires give-requires returns)
+dzb-dual-spec = tie.close (tie.spec (λ c κs. search needs) (λ c κs. search needs) (λ c κs. search needs) returns)

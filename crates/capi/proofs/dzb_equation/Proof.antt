@@ -4,24 +4,6 @@ use Rattle.capi.proofs.Shared.{made, stepless-same}
 use Rattle.capi.proofs.dzb_equation.Statement.{statement}
 use Rattle.capi.proofs.dzb_equation.Tie as tie
 
-new-requires : tie.Need-new-requires
-new-requires c κs = search needs
-
-new-requires-2 : tie.Need-new-requires-2
-new-requires-2 c κs = search needs
-
-new-requires-3 : tie.Need-new-requires-3
-new-requires-3 c κs = search needs
-
-rounding-requires : tie.Need-rounding-requires
-rounding-requires c κs = search needs
-
-equation-requires : tie.Need-equation-requires
-equation-requires c κs = search needs
-
-give-requires : tie.Need-give-requires
-give-requires c κs = search needs
-
 returns : tie.Need-returns
 returns c =
     let called = c .before .before in
@@ -36,10 +18,10 @@ pub dzb-equation-spec : {M : Type 1} → statement M
 dzb-equation-spec =
     tie.close
     (tie.spec
-    new-requires
-    new-requires-2
-    new-requires-3
-    rounding-requires
-    equation-requires
-    give-requires
+    (λ c κs. search needs)
+    (λ c κs. search needs)
+    (λ c κs. search needs)
+    (λ c κs. search needs)
+    (λ c κs. search needs)
+    (λ c κs. search needs)
     returns)

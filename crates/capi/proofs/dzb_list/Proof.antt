@@ -6,12 +6,6 @@ use Rattle.capi.proofs.Shared.{effect-same}
 use Rattle.capi.proofs.dzb_list.Statement.{statement}
 use Rattle.capi.proofs.dzb_list.Tie as tie
 
-rounding-requires : tie.Need-rounding-requires
-rounding-requires c κs = search needs
-
-evaluate-requires : tie.Need-evaluate-requires
-evaluate-requires c κs = search needs
-
 give-list-requires : tie.Need-give-list-requires
 give-list-requires c κs n k refused = step-within 16 64 _ _ n k (sym (c .before .evaluate .ensures) ∙ refused)
 
@@ -21,4 +15,4 @@ returns c =
     effect-same _ (c .give-list .ensures) (rw (called .before .rounding .ensures) at (called .evaluate .ensures))
 
 pub dzb-list-spec : {M : Type 1} → statement M
-dzb-list-spec = tie.close (tie.spec rounding-requires evaluate-requires give-list-requires returns)
+dzb-list-spec = tie.close (tie.spec (λ c κs. search needs) (λ c κs. search needs) give-list-requires returns)

@@ -4,18 +4,6 @@ use Rattle.capi.proofs.Shared.{made, stepless-same}
 use Rattle.capi.proofs.dzb_meet.Statement.{statement}
 use Rattle.capi.proofs.dzb_meet.Tie as tie
 
-new-requires : tie.Need-new-requires
-new-requires c κs = search needs
-
-new-requires-2 : tie.Need-new-requires-2
-new-requires-2 c κs = search needs
-
-meet-requires : tie.Need-meet-requires
-meet-requires c κs = search needs
-
-give-requires : tie.Need-give-requires
-give-requires c κs = search needs
-
 returns : tie.Need-returns
 returns c =
     let called = c .before .before in
@@ -27,4 +15,4 @@ returns c =
 
 pub dzb-meet-spec : {M : Type 1} → statement M
 dzb-meet-spec =
-    tie.close (tie.spec new-requires new-requires-2 meet-requires give-requires returns)
+    tie.close (tie.spec (λ c κs. search needs) (λ c κs. search needs) (λ c κs. search needs) (λ c κs. search needs) returns)

@@ -4,15 +4,6 @@ use Rattle.capi.proofs.Shared.{made, stepless-same}
 use Rattle.capi.proofs.dzb_negation.Statement.{statement}
 use Rattle.capi.proofs.dzb_negation.Tie as tie
 
-new-requires : tie.Need-new-requires
-new-requires c κs = search needs
-
-negation-requires : tie.Need-negation-requires
-negation-requires c κs = search needs
-
-give-requires : tie.Need-give-requires
-give-requires c κs = search needs
-
 returns : tie.Need-returns
 returns c =
     let called = c .before .before in
@@ -20,4 +11,4 @@ returns c =
     stepless-same _ (c .give .ensures) (rw (made (start .fits .lower) (start .fits .upper) (called .before .new .ensures)) at (called .negation .ensures))
 
 pub dzb-negation-spec : {M : Type 1} → statement M
-dzb-negation-spec = tie.close (tie.spec new-requires negation-requires give-requires returns)
+dzb-negation-spec = tie.close (tie.spec (λ c κs. search needs) (λ c κs. search needs) (λ c κs. search needs) returns)

@@ -4,15 +4,6 @@ use Rattle.capi.proofs.Shared.{made, stepless-same}
 use Rattle.capi.proofs.dzb_opposite.Statement.{statement}
 use Rattle.capi.proofs.dzb_opposite.Tie as tie
 
-new-requires : tie.Need-new-requires
-new-requires c κs = search needs
-
-opposite-requires : tie.Need-opposite-requires
-opposite-requires c κs = search needs
-
-give-requires : tie.Need-give-requires
-give-requires c κs = search needs
-
 returns : tie.Need-returns
 returns c =
     let called = c .before .before in
@@ -20,4 +11,4 @@ returns c =
     stepless-same _ (c .give .ensures) (rw (made (start .fits .lower) (start .fits .upper) (called .before .new .ensures)) at (called .opposite .ensures))
 
 pub dzb-opposite-spec : {M : Type 1} → statement M
-dzb-opposite-spec = tie.close (tie.spec new-requires opposite-requires give-requires returns)
+dzb-opposite-spec = tie.close (tie.spec (λ c κs. search needs) (λ c κs. search needs) (λ c κs. search needs) returns)

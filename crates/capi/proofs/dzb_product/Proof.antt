@@ -4,21 +4,6 @@ use Rattle.capi.proofs.Shared.{made, stepless-same}
 use Rattle.capi.proofs.dzb_product.Statement.{statement}
 use Rattle.capi.proofs.dzb_product.Tie as tie
 
-new-requires : tie.Need-new-requires
-new-requires c κs = search needs
-
-new-requires-2 : tie.Need-new-requires-2
-new-requires-2 c κs = search needs
-
-rounding-requires : tie.Need-rounding-requires
-rounding-requires c κs = search needs
-
-product-requires : tie.Need-product-requires
-product-requires c κs = search needs
-
-give-requires : tie.Need-give-requires
-give-requires c κs = search needs
-
 returns : tie.Need-returns
 returns c =
     let called = c .before .before in
@@ -32,4 +17,4 @@ returns c =
 pub dzb-product-spec : {M : Type 1} → statement M
 dzb-product-spec =
     tie.close
-    (tie.spec new-requires new-requires-2 rounding-requires product-requires give-requires returns)
+    (tie.spec (λ c κs. search needs) (λ c κs. search needs) (λ c κs. search needs) (λ c κs. search needs) (λ c κs. search needs) returns)

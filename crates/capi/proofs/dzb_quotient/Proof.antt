@@ -4,21 +4,6 @@ use Rattle.capi.proofs.Shared.{made, stepless-same}
 use Rattle.capi.proofs.dzb_quotient.Statement.{statement}
 use Rattle.capi.proofs.dzb_quotient.Tie as tie
 
-new-requires : tie.Need-new-requires
-new-requires c κs = search needs
-
-new-requires-2 : tie.Need-new-requires-2
-new-requires-2 c κs = search needs
-
-rounding-requires : tie.Need-rounding-requires
-rounding-requires c κs = search needs
-
-quotient-requires : tie.Need-quotient-requires
-quotient-requires c κs = search needs
-
-give-requires : tie.Need-give-requires
-give-requires c κs = search needs
-
 returns : tie.Need-returns
 returns c =
     let called = c .before .before in
@@ -33,9 +18,9 @@ pub dzb-quotient-spec : {M : Type 1} → statement M
 dzb-quotient-spec =
     tie.close
     (tie.spec
-    new-requires
-    new-requires-2
-    rounding-requires
-    quotient-requires
-    give-requires
+    (λ c κs. search needs)
+    (λ c κs. search needs)
+    (λ c κs. search needs)
+    (λ c κs. search needs)
+    (λ c κs. search needs)
     returns)

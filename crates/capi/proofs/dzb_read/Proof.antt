@@ -4,14 +4,8 @@ use Rattle.capi.proofs.Shared.{stepless-same}
 use Rattle.capi.proofs.dzb_read.Statement.{statement}
 use Rattle.capi.proofs.dzb_read.Tie as tie
 
-read-requires : tie.Need-read-requires
-read-requires c κs = search needs
-
-give-requires : tie.Need-give-requires
-give-requires c κs = search needs
-
 returns : tie.Need-returns
 returns c = stepless-same _ (c .give .ensures) (c .before .before .read .ensures)
 
 pub dzb-read-spec : {M : Type 1} → statement M
-dzb-read-spec = tie.close (tie.spec read-requires give-requires returns)
+dzb-read-spec = tie.close (tie.spec (λ c κs. search needs) (λ c κs. search needs) returns)

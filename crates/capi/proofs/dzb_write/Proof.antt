@@ -4,18 +4,6 @@ use Rattle.capi.proofs.Shared.{made, writing-effect-same}
 use Rattle.capi.proofs.dzb_write.Statement.{statement}
 use Rattle.capi.proofs.dzb_write.Tie as tie
 
-new-requires : tie.Need-new-requires
-new-requires c κs = search needs
-
-write-requires : tie.Need-write-requires
-write-requires c κs = search needs
-
-give-length-requires : tie.Need-give-length-requires
-give-length-requires c κs = search needs
-
-same-length : tie.Need-same-length
-same-length c = search needs
-
 returns : tie.Need-returns
 returns c =
     let written = c .before .before .before .before in
@@ -27,4 +15,4 @@ returns c =
 
 pub dzb-write-spec : {M : Type 1} → statement M
 dzb-write-spec =
-    tie.close (tie.spec new-requires write-requires give-length-requires same-length returns)
+    tie.close (tie.spec (λ c κs. search needs) (λ c κs. search needs) (λ c κs. search needs) (λ c. search needs) returns)

@@ -9,21 +9,6 @@ use Rattle.capi.proofs.Shared.{effect-value, effect-refusal}
 use Rattle.capi.proofs.give.Statement.{statement}
 use Rattle.capi.proofs.give.Tie as tie
 
-enum-known-answer : tie.Need-enum-known-answer
-enum-known-answer c = search needs
-
-put-requires : tie.Need-put-requires
-put-requires c κs = search needs
-
-enum-known-answer-2 : tie.Need-enum-known-answer-2
-enum-known-answer-2 c = search needs
-
-number-requires : tie.Need-number-requires
-number-requires c κs = search needs
-
-cast-result : tie.Need-cast-result
-cast-result c = search needs
-
 returns : tie.Need-returns
 returns c = effect-value _ (ap (λ (a : Answer). stepless (outcome a)) (c .before .before .before .answer .given .1)) (c .put .ensures)
 
@@ -34,10 +19,10 @@ pub give-spec : {M : Type 1} → statement M
 give-spec =
     tie.close
     (tie.spec
-    enum-known-answer
-    put-requires
-    enum-known-answer-2
-    number-requires
-    cast-result
+    (λ c. search needs)
+    (λ c κs. search needs)
+    (λ c. search needs)
+    (λ c κs. search needs)
+    (λ c. search needs)
     returns
     returns-2)

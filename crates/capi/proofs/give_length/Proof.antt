@@ -6,18 +6,6 @@ use Rattle.capi.proofs.Shared.{length-effect-told, length-effect-refusa
 use Rattle.capi.proofs.give_length.Statement.{statement}
 use Rattle.capi.proofs.give_length.Tie as tie
 
-enum-known-answer : tie.Need-enum-known-answer
-enum-known-answer c = search needs
-
-enum-known-answer-2 : tie.Need-enum-known-answer-2
-enum-known-answer-2 c = search needs
-
-number-requires : tie.Need-number-requires
-number-requires c κs = search needs
-
-cast-result : tie.Need-cast-result
-cast-result c = search needs
-
 returns : tie.Need-returns
 returns c = length-effect-told _ (ap told (c .before .answer .given .1))
 
@@ -27,4 +15,4 @@ returns-2 c = length-effect-refusal _ (ap told (c .before .before .answer2 .give
 pub give-length-spec : {M : Type 1} → statement M
 give-length-spec =
     tie.close
-    (tie.spec enum-known-answer enum-known-answer-2 number-requires cast-result returns returns-2)
+    (tie.spec (λ c. search needs) (λ c. search needs) (λ c κs. search needs) (λ c. search needs) returns returns-2)

@@ -8,21 +8,6 @@ use Rattle.capi.proofs.Shared.{effect-value, effect-refusal}
 use Rattle.capi.proofs.give_list.Statement.{statement}
 use Rattle.capi.proofs.give_list.Tie as tie
 
-enum-known-answer : tie.Need-enum-known-answer
-enum-known-answer c = search needs
-
-put-requires : tie.Need-put-requires
-put-requires c κs = search needs
-
-enum-known-answer-2 : tie.Need-enum-known-answer-2
-enum-known-answer-2 c = search needs
-
-number-requires : tie.Need-number-requires
-number-requires c κs = search needs
-
-cast-result : tie.Need-cast-result
-cast-result c = search needs
-
 -- what `requires` says of the step
 step-within : (c : tie.After-number) → c .before .before .answer2 .given .0 .1 .0 ≤ 64
 step-within c = c .before .before .before .before .pre _ _ (ap outcome (c .before .before .answer2 .given .1))
@@ -46,11 +31,11 @@ pub give-list-spec : {M : Type 1} → statement M
 give-list-spec =
     tie.close
     (tie.spec
-    enum-known-answer
-    put-requires
-    enum-known-answer-2
-    number-requires
-    cast-result
+    (λ c. search needs)
+    (λ c κs. search needs)
+    (λ c. search needs)
+    (λ c κs. search needs)
+    (λ c. search needs)
     cast-result-2
     mul-result
     add-result
