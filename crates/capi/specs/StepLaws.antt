@@ -1,11 +1,11 @@
 -- A refused list's step, or its count of steps read, is at most the number of steps that are allowed, so it fits beside the number. Assumes nothing.
-use mathlib.Core.Path.{_≡_, refl, sym}
-use mathlib.Core.List.{List, [], _∷_, _++_, List·Memᴰ, List·Memᴰ·head, List·Memᴰ·not-nil, List·Memᴰ·append-cases, List·Memᴰ·eq-of-singleton, Memᴰ·append-left, Memᴰ·append-right}
+use mathlib.Core.Path.{_≡_, refl}
+use mathlib.Core.List.{List, [], _∷_, List·Memᴰ, List·Memᴰ·head, List·Memᴰ·not-nil, List·Memᴰ·append-cases, List·Memᴰ·eq-of-singleton, Memᴰ·append-left, Memᴰ·append-right}
 use mathlib.Core.Logic.{⊎-elim}
 use Prim.Native.Nat.{ℕ, zero, suc, _≤_, _<_}
 use native.Mathlib.Omega.{arith}
 use Rattle.directed.specs.declared.Rounding.{Rounding}
-use Rattle.lists.specs.Lists.{refusal, Expression, Reading, refused, answer, read, whole}
+use Rattle.lists.specs.Lists.{refusal, Expression, Reading, refused, answer}
 use Rattle.lists.specs.Reached.{Ending, too-long, stopped, not-one, done, reached-within, ending-is}
 use Rattle.lists.specs.Refusals.{Blame, here-one, here-two, in-one, in-first, in-second, Refusal, reading, evaluating, refusal-exactly}
 use Rattle.lists.specs.Ways.{numbers, up-to, used-once}
