@@ -6,13 +6,13 @@ use Rattle.directed.specs.Answer.{outcome, in-range, value, refusal}
 use Rattle.directed.specs.Equation.{Solves, solution, of-three, equation}
 use Rattle.directed.specs.Exact.{Exact, Sign, Sort, sort, _≋_, zero-free, holds-zero}
 use Rattle.directed.specs.Operations.{_⊟_}
-use Rattle.directed.specs.Thousandths.{_at_, exact, beyond-range}
+use Rattle.directed.specs.Thousandths.{_at_, exact, beyond-range, other-way}
 use Rattle.directed.specs.Tightest.{Tightest}
 use Rattle.directed.specs.declared.Answer.{Answer}
 use Rattle.directed.specs.declared.Interval.{Interval}
 use Rattle.directed.specs.declared.Rounding.{Rounding}
 use Rattle.directed_laws.specs.Answer.{judged, Exactly}
-use Rattle.directed_laws.specs.Exchange.{other-way, exchanged, judged-exchange, sort-dual}
+use Rattle.directed_laws.specs.Exchange.{exchanged, judged-exchange, sort-dual}
 use Rattle.directed_laws.specs.Fraction.{≈-refl, ≈-sym, ≈-trans}
 use Rattle.directed_laws.specs.Operations.{held, divided-judged, answer-exactly}
 use Rattle.directed_laws.specs.Product.{quotient-dual}

@@ -1,10 +1,10 @@
 -- Exchange of ends: the duals, rounded in the other way, give the dual of the former answer, or the same refusal. Assumes nothing.
 use mathlib.Core.Bool.{Bool, true, false, _||_, cond, and-comm}
 use mathlib.Core.Path.{_≡_, refl, ap₂}
-use Rattle.directed.specs.Answer.{Outcome, in-range, sum, difference, product, quotient, value, refusal}
+use Rattle.directed.specs.Answer.{sum, Outcome, in-range, difference, product, quotient, value, refusal}
 use Rattle.directed.specs.Exact.{Exact, _!_, sort, _≋_, ⁺, ⁻}
 use Rattle.directed.specs.Fraction.{above-0, below-0}
-use Rattle.directed.specs.Thousandths.{exact, beyond-range, rounded}
+use Rattle.directed.specs.Thousandths.{exact, beyond-range, rounded, other-way}
 use Rattle.directed.specs.declared.Interval.{Interval}
 use Rattle.directed.specs.declared.Rounding.{Rounding}
 use Rattle.directed.specs.declared.Rounding.the-variants.{Outward, Inward}
@@ -16,10 +16,6 @@ use Rattle.directed_laws.specs.Rounding.{rounded-cong}
 use Rattle.directed_laws.specs.Thousandths.{dual-range}
 use Rattle.directed.specs.Exact as exactly
 use Rattle.directed.specs.Thousandths as thousandths
-
-abbrev pub other-way : Rounding → Rounding
-other-way Outward = Inward
-other-way Inward = Outward
 
 -- the dual of the value, or the same refusal
 abbrev pub exchanged : Outcome → Outcome

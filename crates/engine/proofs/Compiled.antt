@@ -6,6 +6,7 @@ use Prim.Native.Nat.{ℕ, suc, _+_, _-_, _≤_}
 use native.Mathlib.Omega.{arith}
 use native.Mathlib.Numerals.{add-one}
 use lib.ListN.{length, length-append}
+use Rattle.directed.specs.Thousandths.{other-way}
 use Rattle.directed.specs.declared.Interval.{Interval}
 use Rattle.directed.specs.declared.Rounding.{Rounding}
 use Rattle.directed.specs.declared.Rounding.the-variants.{Outward, Inward}
@@ -16,7 +17,7 @@ use Rattle.lists.specs.declared.Binary.{Binary}
 use Rattle.lists.specs.declared.Step.{Step}
 use Rattle.lists.specs.declared.Step.the-variants.{Constant, One, Two, Unknown}
 use Rattle.lists.specs.Steps.{takes, is-unknown}
-use Rattle.lists.specs.Lists.{Result, value, refusal, Expression, constant, one, two, stepped, other, under, unary, binary, at, after, evaluated}
+use Rattle.lists.specs.Lists.{Result, value, refusal, Expression, constant, one, two, stepped, under, unary, binary, at, after, evaluated}
 use Rattle.engine.specs.declared.program.Instruction.{Instruction}
 use Rattle.engine.specs.Program.{Code, code, instruction, no-constant, turning, turned-at, added}
 use Rattle.engine.specs.Machine.{way-after, ran, Fits, end, step}
@@ -147,12 +148,12 @@ fits-more v d e [] i end h k = step h k end
 fits-more v d e (j ∷ is) i (step a b f) h k = step a b (fits-more v _ e is i f h k)
 
 -- ---- the run of an expression's program is its value
-way-not : (m : Bool) (w : Rounding) → way-after (not m) w ≡ way-after m (other w)
+way-not : (m : Bool) (w : Rounding) → way-after (not m) w ≡ way-after m (other-way w)
 way-not true Outward = refl
 way-not true Inward = refl
 way-not false w = refl
 
-ran-turn : (k : ℕ) (w : Rounding) (is : List Instruction) (ms : List Bool) (xs : List Interval) → ran k w is (turn-first ms) xs ≡ ran k (other w) is ms xs
+ran-turn : (k : ℕ) (w : Rounding) (is : List Instruction) (ms : List Bool) (xs : List Interval) → ran k w is (turn-first ms) xs ≡ ran k (other-way w) is ms xs
 unfolding ran
 ran-turn k w [] ms xs = refl
 ran-turn k w (i ∷ is) [] xs = refl

@@ -3,6 +3,7 @@ use mathlib.Core.Bool.{Bool}
 use mathlib.Core.List.{List, [], _∷_}
 use Prim.Native.Nat.{ℕ, suc, _+_, _-_, _≤_}
 use lib.ListN.{drop, getD}
+use Rattle.directed.specs.Thousandths.{other-way}
 use Rattle.directed.specs.declared.Interval.{Interval}
 use Rattle.directed.specs.declared.Rounding.{Rounding}
 use Rattle.directed.specs.Choice.{if_then_else_}
@@ -10,7 +11,7 @@ use Rattle.directed.specs.Answer as answers
 use Rattle.lists.specs.declared.Step.{Step}
 use Rattle.lists.specs.declared.Step.the-variants.{Constant, One, Two, Unknown}
 use Rattle.lists.specs.Steps.{takes}
-use Rattle.lists.specs.Lists.{Result, value, other, unary, binary, at, after}
+use Rattle.lists.specs.Lists.{Result, value, unary, binary, at, after}
 use Rattle.engine.specs.declared.program.Instruction.{Instruction}
 use Rattle.engine.specs.declared.machine.Stack.{Stack}
 use Rattle.engine.specs.Program.{tops, no-constant}
@@ -29,7 +30,7 @@ step-outcome w (Two g) p (y ∷ x ∷ xs) = binary w g x y
 step-outcome w Unknown p xs = answers.value p
 
 abbrev pub way-after : Bool → Rounding → Rounding
-way-after m w = if m then other w else w
+way-after m w = if m then other-way w else w
 
 -- from step k on
 unfoldable pub ran : ℕ → Rounding → List Instruction → List Bool → List Interval → Result

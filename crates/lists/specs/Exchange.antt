@@ -13,7 +13,7 @@ use Rattle.directed.specs.declared.Rounding.the-variants.{Outward, Inward}
 use Rattle.directed.specs.Choice.{if_then_else_}
 use Rattle.directed.specs.Exact as exactly
 use Rattle.directed.specs.Exact.{Exact, _≋_}
-use Rattle.directed.specs.Thousandths.{exact, dual, rounded}
+use Rattle.directed.specs.Thousandths.{exact, dual, rounded, other-way}
 use Rattle.directed.specs.Answer as answers
 use Rattle.directed_laws.specs.Exchange as laws
 use Rattle.directed_laws.specs.Exchange.{in-range-exchange}
@@ -26,7 +26,7 @@ use Rattle.lists.specs.declared.Binary.the-variants.{Sum, Difference, Pr
 use Rattle.lists.specs.declared.Step.{Step}
 use Rattle.lists.specs.declared.Step.the-variants.{Constant, One, Two, Unknown}
 use Rattle.lists.specs.Steps.{step-of, follows, constant-in}
-use Rattle.lists.specs.Lists.{Result, value, refusal, Judgement, sound, cause, judgement, Expression, constant, one, two, stepped, Reading, whole, refused, at-end, unless, read, other, under, unary, binary, at, after, evaluated, result, answer}
+use Rattle.lists.specs.Lists.{Result, value, refusal, Judgement, sound, cause, judgement, Expression, constant, one, two, stepped, Reading, whole, refused, at-end, unless, read, under, unary, binary, at, after, evaluated, result, answer}
 use Rattle.lists.specs.ExactValue.{exact-unary, exact-binary}
 use Rattle.lists.specs.Containment.{unary-rounded, binary-rounded}
 
@@ -84,7 +84,7 @@ exchange-reading (refused n k) = refused n k
 
 -- ---- each operation
 by-way : (w : Rounding) (x y : Exact) → x ≋ exactly.dual y
-    → answers.in-range (rounded (other w) x) ≡ laws.exchanged (answers.in-range (rounded w y))
+    → answers.in-range (rounded (other-way w) x) ≡ laws.exchanged (answers.in-range (rounded w y))
 by-way Outward x y e = in-range-exchange Inward x y e
 by-way Inward x y e = in-range-exchange Outward x y e
 
@@ -105,9 +105,9 @@ binary-dual Product x y = product-dual x y
 binary-dual Join x y = ≡→≋ _ _ refl
 binary-dual Meet x y = ≡→≋ _ _ refl
 
-binary-exchange : (w : Rounding) (g : Binary) (a b : Interval) → binary (other w) (exchange-binary g) (dual a) (dual b) ≡ laws.exchanged (binary w g a b)
+binary-exchange : (w : Rounding) (g : Binary) (a b : Interval) → binary (other-way w) (exchange-binary g) (dual a) (dual b) ≡ laws.exchanged (binary w g a b)
 binary-exchange w g a b =
-    rw (binary-rounded (other w) (exchange-binary g) (dual a) (dual b), binary-rounded w g a b)
+    rw (binary-rounded (other-way w) (exchange-binary g) (dual a) (dual b), binary-rounded w g a b)
     (by-way w _ _ (binary-dual g (exact a) (exact b)))
 
 at-exchange : (k : ℕ) (o : answers.Outcome) → at k (laws.exchanged o) ≡ exchanged (at k o)
@@ -115,7 +115,7 @@ at-exchange k (answers.value a) = refl
 at-exchange k (answers.refusal n) = refl
 
 -- ---- the value of an expression
-under-other : (f : Unary) (w : Rounding) → under f (other w) ≡ other (under f w)
+under-other : (f : Unary) (w : Rounding) → under f (other-way w) ≡ other-way (under f w)
 under-other Negation w = refl
 under-other Opposite w = refl
 under-other Dual w = refl
@@ -125,12 +125,12 @@ after-one k f (value x) = ap (at k) (unary-exchange f x) ∙ at-exchange k (unar
 after-one k f (refusal n i) = refl
 
 after-two : (k : ℕ) (w : Rounding) (g : Binary) (r q : Result)
-    → after (exchanged r) (λ x. after (exchanged q) λ y. at k (binary (other w) (exchange-binary g) x y)) ≡ exchanged (after r λ x. after q λ y. at k (binary w g x y))
+    → after (exchanged r) (λ x. after (exchanged q) λ y. at k (binary (other-way w) (exchange-binary g) x y)) ≡ exchanged (after r λ x. after q λ y. at k (binary w g x y))
 after-two k w g (value x) (value y) = ap (at k) (binary-exchange w g x y) ∙ at-exchange k (binary w g x y)
 after-two k w g (value x) (refusal n i) = refl
 after-two k w g (refusal n i) q = refl
 
-evaluated-exchange : (w : Rounding) (t : Expression) → evaluated (other w) (exchange-tree t) ≡ exchanged (evaluated w t)
+evaluated-exchange : (w : Rounding) (t : Expression) → evaluated (other-way w) (exchange-tree t) ≡ exchanged (evaluated w t)
 unfolding evaluated exchange-tree
 evaluated-exchange w (constant k p) = refl
 evaluated-exchange w (one k f a) = rw (under-other f w, evaluated-exchange (under f w) a) (after-one k f (evaluated (under f w) a))
@@ -224,10 +224,10 @@ read-exchange v (suc l) k ts (zero ∷ a ∷ b ∷ c ∷ d ∷ e ∷ f ∷ []) =
 read-exchange v (suc l) k ts (zero ∷ a ∷ b ∷ c ∷ d ∷ e ∷ f ∷ g ∷ []) = refl
 
 -- ---- the answer
-pub answer-exchange : (v steps : ℕ) (w : Rounding) (s : List ℕ) → answer v steps (other w) (exchange s) ≡ exchanged (answer v steps w s)
+pub answer-exchange : (v steps : ℕ) (w : Rounding) (s : List ℕ) → answer v steps (other-way w) (exchange s) ≡ exchanged (answer v steps w s)
 unfolding answer
 answer-exchange v steps w s = rw (read-exchange v steps 0 [] s) (go (read v steps 0 [] s))
   where
-    go : (q : Reading) → result (other w) (exchange-reading q) ≡ exchanged (result w q)
+    go : (q : Reading) → result (other-way w) (exchange-reading q) ≡ exchanged (result w q)
     go (whole t) = evaluated-exchange w t
     go (refused n k) = refl

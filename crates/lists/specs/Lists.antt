@@ -4,6 +4,7 @@ use mathlib.Core.List.{List, [], _∷_}
 use Prim.Native.Nat.{ℕ, zero, suc, _+_, _-_}
 use lib.Dec.{ltb}
 use lib.ListN.{length, drop}
+use Rattle.directed.specs.Thousandths.{other-way}
 use Rattle.directed.specs.declared.Interval.{Interval}
 use Rattle.directed.specs.declared.Rounding.{Rounding}
 use Rattle.directed.specs.declared.Rounding.the-variants.{Outward, Inward}
@@ -94,14 +95,10 @@ read values (suc left) k ts (code ∷ rest) =
 -- ---- the value of an expression
 -- "Dual and opposite turn containment round. So the outward value of a dual or opposite step is made from the inward value of what it is
 -- applied to, and the inward value from the outward one. All other steps work in the way asked."
-abbrev pub other : Rounding → Rounding
-other Outward = Inward
-other Inward = Outward
-
 abbrev pub under : Unary → Rounding → Rounding
 under Negation w = w
-under Opposite w = other w
-under Dual w = other w
+under Opposite w = other-way w
+under Dual w = other-way w
 
 -- 4: "Cause 4 is judged on each step's value in the way it is wanted"
 unfoldable pub unary : Unary → Interval → answers.Outcome

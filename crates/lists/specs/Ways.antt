@@ -8,6 +8,7 @@ use native.Mathlib.Nat.{zero-add}
 use native.Mathlib.Numerals.{one-add}
 use native.Mathlib.Omega.{arith}
 use lib.ListN.{length}
+use Rattle.directed.specs.Thousandths.{other-way}
 use Rattle.directed.specs.declared.Rounding.{Rounding}
 use Rattle.directed.specs.declared.Rounding.the-variants.{Outward, Inward}
 use Rattle.directed.specs.Choice.{if_then_else_}
@@ -16,7 +17,7 @@ use Rattle.lists.specs.declared.Unary.the-variants.{Negation, Opposite, 
 use Rattle.lists.specs.declared.Step.{Step}
 use Rattle.lists.specs.declared.Step.the-variants.{Constant, One, Two, Unknown}
 use Rattle.lists.specs.Steps.{step-of, takes, is-unknown}
-use Rattle.lists.specs.Lists.{Expression, constant, one, two, stepped, Reading, whole, other, under, read}
+use Rattle.lists.specs.Lists.{Expression, constant, one, two, stepped, Reading, whole, under, read}
 use Rattle.lists.specs.Causes.{sound-step}
 use Rattle.lists.specs.Reached.{Reached, first, next, Ending, too-long, stopped, not-one, done, ends}
 
@@ -119,9 +120,9 @@ is-even (suc n) = not (is-even n)
 
 -- "the one asked if an even number .. and the other way if the number is odd"
 abbrev pub by-parity : Rounding → ℕ → Rounding
-by-parity w n = if is-even n then w else other w
+by-parity w n = if is-even n then w else other-way w
 
-other-parity : (w : Rounding) (b : Bool) → other (if b then w else other w) ≡ (if not b then w else other w)
+other-parity : (w : Rounding) (b : Bool) → other-way (if b then w else other-way w) ≡ (if not b then w else other-way w)
 other-parity Outward true = refl
 other-parity Outward false = refl
 other-parity Inward true = refl
