@@ -1,0 +1,27 @@
+-- `capi::dzb_equation` gives the answer of `arithmetic::equation`. Assumes nothing.
+use borrow.Author.Needs.{needs}
+use Rattle.capi.proofs.Shared.{made, stepless-same}
+use Rattle.capi.proofs.dzb_equation.Statement.{statement}
+use Rattle.capi.proofs.dzb_equation.Tie as tie
+
+returns : tie.Need-returns
+returns c =
+    let called = c .before .before in
+    let intervals = called .before .before in
+    let start = intervals .before .before .before in
+    stepless-same
+    _
+    (c .give .ensures)
+    (rw (called .before .rounding .ensures, made (start .fits .al) (start .fits .au) (intervals .before .before .new .ensures), made (start .fits .cl) (start .fits .cu) (intervals .before .new2 .ensures), made (start .fits .bl) (start .fits .bu) (intervals .new3 .ensures)) at (called .equation .ensures))
+
+pub dzb-equation-spec : {M : Type 1} → statement M
+dzb-equation-spec =
+    tie.close
+    (tie.spec
+    (λ c κs. search needs)
+    (λ c κs. search needs)
+    (λ c κs. search needs)
+    (λ c κs. search needs)
+    (λ c κs. search needs)
+    (λ c κs. search needs)
+    returns)

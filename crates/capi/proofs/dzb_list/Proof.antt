@@ -1,0 +1,18 @@
+-- `capi::dzb_list` gives the answer of `engine::evaluate`, whose steps are at most 64. Assumes nothing.
+use borrow.Author.Needs.{needs}
+use mathlib.Core.Path.{sym, _∙_}
+use Rattle.capi.specs.StepLaws.{step-within}
+use Rattle.capi.proofs.Shared.{effect-same}
+use Rattle.capi.proofs.dzb_list.Statement.{statement}
+use Rattle.capi.proofs.dzb_list.Tie as tie
+
+give-list-requires : tie.Need-give-list-requires
+give-list-requires c κs n k refused = step-within 16 64 _ _ n k (sym (c .before .evaluate .ensures) ∙ refused)
+
+returns : tie.Need-returns
+returns c =
+    let called = c .before .before in
+    effect-same _ (c .give-list .ensures) (rw (called .before .rounding .ensures) at (called .evaluate .ensures))
+
+pub dzb-list-spec : {M : Type 1} → statement M
+dzb-list-spec = tie.close (tie.spec (λ c κs. search needs) (λ c κs. search needs) give-list-requires returns)

@@ -1,0 +1,18 @@
+-- `capi::dzb_meet` gives the answer of `arithmetic::meet`. Assumes nothing.
+use borrow.Author.Needs.{needs}
+use Rattle.capi.proofs.Shared.{made, stepless-same}
+use Rattle.capi.proofs.dzb_meet.Statement.{statement}
+use Rattle.capi.proofs.dzb_meet.Tie as tie
+
+returns : tie.Need-returns
+returns c =
+    let called = c .before .before in
+    let start = called .before .before .before in
+    stepless-same
+    _
+    (c .give .ensures)
+    (rw (made (start .fits .al) (start .fits .au) (called .before .before .new .ensures), made (start .fits .bl) (start .fits .bu) (called .before .new2 .ensures)) at (called .meet .ensures))
+
+pub dzb-meet-spec : {M : Type 1} → statement M
+dzb-meet-spec =
+    tie.close (tie.spec (λ c κs. search needs) (λ c κs. search needs) (λ c κs. search needs) (λ c κs. search needs) returns)

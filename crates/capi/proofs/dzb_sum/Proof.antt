@@ -1,0 +1,20 @@
+-- `capi::dzb_sum` gives the answer of `arithmetic::sum`. Assumes nothing.
+use borrow.Author.Needs.{needs}
+use Rattle.capi.proofs.Shared.{made, stepless-same}
+use Rattle.capi.proofs.dzb_sum.Statement.{statement}
+use Rattle.capi.proofs.dzb_sum.Tie as tie
+
+returns : tie.Need-returns
+returns c =
+    let called = c .before .before in
+    let intervals = called .before .before in
+    let start = intervals .before .before in
+    stepless-same
+    _
+    (c .give .ensures)
+    (rw (called .before .rounding .ensures, made (start .fits .al) (start .fits .au) (intervals .before .new .ensures), made (start .fits .bl) (start .fits .bu) (intervals .new2 .ensures)) at (called .sum .ensures))
+
+pub dzb-sum-spec : {M : Type 1} → statement M
+dzb-sum-spec =
+    tie.close
+    (tie.spec (λ c κs. search needs) (λ c κs. search needs) (λ c κs. search needs) (λ c κs. search needs) (λ c κs. search needs) returns)

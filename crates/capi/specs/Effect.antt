@@ -1,0 +1,64 @@
+-- What a call from C or Rust leaves: the number that it returns, and what stands at exit in the places that the caller lends. Assumes nothing.
+use mathlib.Core.Bool.{Bool, true, false}
+use mathlib.Core.List.{List, [], _∷_}
+use Prim.Native.Nat.{ℕ, _+_, _*_}
+use lib.IntN.{ℤ}
+use Rattle.directed.specs.declared.Interval.{Interval}
+use Rattle.directed.specs.declared.Rounding.{Rounding}
+use Rattle.directed.specs.declared.Rounding.the-variants.{Outward, Inward}
+use Rattle.directed.specs.Answer.{Outcome}
+use Rattle.lists.specs.Lists.{Result, value, refusal, at}
+use Rattle.text.specs.Answer.{Told, length-told, refusal-told, Writing}
+
+-- 01's way, as C says it: `inward`
+abbrev pub way : Bool → Rounding
+way false = Outward
+way true = Inward
+
+-- the returned number, and the two lent ends at exit
+pub record Effect : Type 0 where
+  pub returned : ℕ
+  pub result : List ℤ
+
+abbrev pub effect : ℕ → List ℤ → Effect
+effect n ends = record { returned = n; result = ends }
+
+abbrev pub done : Interval → Effect
+done a = effect 0 (a .lower ∷ a .upper ∷ [])
+
+-- "number; in a list also the step": both in the returned number, so that a refused list, too, leaves every lent byte as it was
+abbrev pub with-step : ℕ → ℕ → ℕ
+with-step number step = number + 256 * step
+
+-- A value goes to the lent ends, lower then upper, and 0 is returned. "a refusal alters no byte of theirs": its number is returned with its step,
+-- and the lent ends stay as they were.
+unfoldable pub effect-of : Result → List ℤ → Effect
+effect-of (value a) before = done a
+effect-of (refusal k step) before = effect (with-step k step) before
+
+-- where there are no steps, step 0
+abbrev pub stepless : Outcome → Result
+stepless o = at 0 o
+
+-- Writing a text: its length goes to a lent number of its own.
+pub record LengthEffect : Type 0 where
+  pub returned : ℕ
+  pub written : ℕ
+
+abbrev pub length-effect : ℕ → ℕ → LengthEffect
+length-effect n l = record { returned = n; written = l }
+
+unfoldable pub length-effect-of : Told → ℕ → LengthEffect
+length-effect-of (length-told n) before = length-effect 0 n
+length-effect-of (refusal-told k) before = length-effect k before
+
+pub record WritingEffect : Type 0 where
+  pub told : LengthEffect
+  pub buffer : List ℕ
+
+abbrev pub writing-effect : ℕ → ℕ → List ℕ → WritingEffect
+writing-effect n l d = record { told = length-effect n l; buffer = d }
+
+-- The buffer is as 01 says, and the lent length stays as it was where no text is written.
+unfoldable pub writing-effect-of : Writing → ℕ → WritingEffect
+writing-effect-of w before = record { told = length-effect-of (w .answer) before; buffer = w .buffer }

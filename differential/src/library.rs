@@ -1,0 +1,57 @@
+//! The archive's functions (include/donzibrau.h), declared as the header has them, and safe to call.
+
+use crate::paper::{Operation, Way};
+
+#[rustfmt::skip]
+unsafe extern "C" {
+    fn dzb_sum(a_lower: i32, a_upper: i32, b_lower: i32, b_upper: i32, inward: bool, result: &mut [i32; 2]) -> u32;
+    fn dzb_difference(a_lower: i32, a_upper: i32, b_lower: i32, b_upper: i32, inward: bool, result: &mut [i32; 2]) -> u32;
+    fn dzb_product(a_lower: i32, a_upper: i32, b_lower: i32, b_upper: i32, inward: bool, result: &mut [i32; 2]) -> u32;
+    fn dzb_quotient(a_lower: i32, a_upper: i32, b_lower: i32, b_upper: i32, inward: bool, result: &mut [i32; 2]) -> u32;
+    fn dzb_equation(a_lower: i32, a_upper: i32, c_lower: i32, c_upper: i32, b_lower: i32, b_upper: i32, inward: bool, result: &mut [i32; 2]) -> u32;
+    fn dzb_negation(lower: i32, upper: i32, result: &mut [i32; 2]) -> u32;
+    fn dzb_opposite(lower: i32, upper: i32, result: &mut [i32; 2]) -> u32;
+    fn dzb_dual(lower: i32, upper: i32, result: &mut [i32; 2]) -> u32;
+    fn dzb_join(a_lower: i32, a_upper: i32, b_lower: i32, b_upper: i32, result: &mut [i32; 2]) -> u32;
+    fn dzb_meet(a_lower: i32, a_upper: i32, b_lower: i32, b_upper: i32, result: &mut [i32; 2]) -> u32;
+    fn dzb_read(text: *const u8, length: usize, result: &mut [i32; 2]) -> u32;
+    fn dzb_write(lower: i32, upper: i32, buffer: *mut u8, length: usize, written: &mut usize) -> u32;
+    fn dzb_list(list: *const u8, length: usize, inward: bool, result: &mut [i32; 2]) -> u32;
+    fn dzb_line(line: *const u8, length: usize, result: &mut [i32; 2]) -> u32;
+}
+
+/// The ends of the pairs in the order of the call: two for each pair that the operation takes.
+pub fn operation(operation: Operation, e: &[i32; 6], way: Way, result: &mut [i32; 2]) -> u32 {
+    let inward = way == Way::Inward;
+    // Every function takes any numbers; `result` is an exclusive reference of the length that is declared.
+    unsafe {
+        match operation {
+            Operation::Sum => dzb_sum(e[0], e[1], e[2], e[3], inward, result),
+            Operation::Difference => dzb_difference(e[0], e[1], e[2], e[3], inward, result),
+            Operation::Product => dzb_product(e[0], e[1], e[2], e[3], inward, result),
+            Operation::Quotient => dzb_quotient(e[0], e[1], e[2], e[3], inward, result),
+            Operation::Equation => dzb_equation(e[0], e[1], e[2], e[3], e[4], e[5], inward, result),
+            Operation::Negation => dzb_negation(e[0], e[1], result),
+            Operation::Opposite => dzb_opposite(e[0], e[1], result),
+            Operation::Dual => dzb_dual(e[0], e[1], result),
+            Operation::Join => dzb_join(e[0], e[1], e[2], e[3], result),
+            Operation::Meet => dzb_meet(e[0], e[1], e[2], e[3], result),
+        }
+    }
+}
+
+pub fn read(text: &[u8], result: &mut [i32; 2]) -> u32 {
+    unsafe { dzb_read(text.as_ptr(), text.len(), result) }
+}
+
+pub fn write(lower: i32, upper: i32, buffer: &mut [u8], written: &mut usize) -> u32 {
+    unsafe { dzb_write(lower, upper, buffer.as_mut_ptr(), buffer.len(), written) }
+}
+
+pub fn list(list: &[u8], way: Way, result: &mut [i32; 2]) -> u32 {
+    unsafe { dzb_list(list.as_ptr(), list.len(), way == Way::Inward, result) }
+}
+
+pub fn line(line: &[u8], result: &mut [i32; 2]) -> u32 {
+    unsafe { dzb_line(line.as_ptr(), line.len(), result) }
+}

@@ -1,0 +1,114 @@
+/* Directed intervals in thousandths, as document 01 defines them: C functions of the archive that `rt staticlib capi` writes.
+ *
+ * Each function takes any numbers and any bytes: there is nothing to test before a call. It returns 0 (DZB_DONE) and writes its result
+ * to the places lent for it, or it returns a refusal number and writes nothing: every byte that is lent stays as it was.
+ *
+ * Ends are thousandths: 1500 stands for 1.500. A pair is two ends, the lower first, in any order: one whose lower end is above its upper
+ * end is improper and is not put in order. An end given is in range from DZB_LEAST to DZB_GREATEST.
+ *
+ * What C cannot check and a caller has to see to: no pointer is null, also where its length is 0; each points to as many elements as
+ * are said, of its type and aligned to it; and nothing that is lent to be written overlaps another argument of the call. So a result
+ * may not be written over the bytes that are read, and `result`, `buffer` and `written` are places apart. Ends are passed by value, so
+ * a result may well go to where the ends came from: dzb_dual(a[0], a[1], a). There is no state between calls: threads may call at once.
+ */
+#ifndef DONZIBRAU_H
+#define DONZIBRAU_H
+
+#include <stddef.h>
+#include <stdint.h>
+#ifndef __cplusplus
+#include <stdbool.h>
+#endif
+
+#ifdef __cplusplus
+extern "C" {
+#endif
+
+/* A pair: lower end, upper end. */
+typedef int32_t dzb_pair[2];
+
+/* The range of an end. */
+#define DZB_LEAST (-2000000000)
+#define DZB_GREATEST 2000000000
+
+/* The way of rounding. Outward: the lower end down and the upper end up. Inward: the lower end up and the upper end down. */
+#define DZB_OUTWARD false
+#define DZB_INWARD true
+
+/* The longest text of a pair, the longest line without its byte 10, the most steps of a list, the most values that wait in one. */
+#define DZB_TEXT_BYTES 27
+#define DZB_LINE_BYTES 96
+#define DZB_LIST_STEPS 64
+#define DZB_LIST_VALUES 16
+
+/* The refusal numbers of document 01's table. */
+enum dzb_cause {
+    DZB_DONE = 0,
+    DZB_MALFORMED = 1,           /* text of a pair not in its form */
+    DZB_END_BEYOND_RANGE = 2,    /* a given end beyond the range */
+    DZB_SHORT_BUFFER = 3,        /* buffer for a text shorter than that text */
+    DZB_RESULT_BEYOND_RANGE = 4, /* a rounded end beyond the range */
+    DZB_ZERO_DIVISOR = 5,        /* divisor, or c, holds zero */
+    DZB_UNKNOWN_CODE = 6,        /* unknown step code, or letter in a line */
+    DZB_SHORT_CONSTANT = 7,      /* fewer than 8 bytes after code 0 */
+    DZB_STACK_UNDERFLOW = 8,     /* too few values for a step */
+    DZB_STACK_OVERFLOW = 9,      /* a 17th value */
+    DZB_TOO_MANY_STEPS = 10,     /* a 65th step */
+    DZB_NOT_ONE_VALUE = 11,      /* not exactly one value at the end, the empty list included */
+    DZB_MALFORMED_LINE = 12      /* line over 96 bytes, or wrong count of fields */
+};
+
+/* Of a number that dzb_list returned: the refusal number, and the step to which it applies, counted from 0 (for DZB_NOT_ONE_VALUE the
+ * count of steps read). What the other functions return is the refusal number itself, and its step is 0. */
+static inline uint32_t dzb_number(uint32_t returned) { return returned % 256; }
+static inline uint32_t dzb_step(uint32_t returned) { return returned / 256; }
+
+/* ---- operations. Each writes both ends of `result` and returns 0, or returns one of the numbers named and writes nothing. */
+
+/* [-upper, -lower]; [-lower, -upper]; [upper, lower]. Refused: 2. */
+uint32_t dzb_negation(int32_t lower, int32_t upper, dzb_pair result);
+uint32_t dzb_opposite(int32_t lower, int32_t upper, dzb_pair result);
+uint32_t dzb_dual(int32_t lower, int32_t upper, dzb_pair result);
+
+/* [smaller lower, larger upper]; [larger lower, smaller upper]. Refused: 2. */
+uint32_t dzb_join(int32_t a_lower, int32_t a_upper, int32_t b_lower, int32_t b_upper, dzb_pair result);
+uint32_t dzb_meet(int32_t a_lower, int32_t a_upper, int32_t b_lower, int32_t b_upper, dzb_pair result);
+
+/* a + b, a - b, a times b: exact, then rounded once. Refused: 2, then 4. */
+uint32_t dzb_sum(int32_t a_lower, int32_t a_upper, int32_t b_lower, int32_t b_upper, bool inward, dzb_pair result);
+uint32_t dzb_difference(int32_t a_lower, int32_t a_upper, int32_t b_lower, int32_t b_upper, bool inward, dzb_pair result);
+uint32_t dzb_product(int32_t a_lower, int32_t a_upper, int32_t b_lower, int32_t b_upper, bool inward, dzb_pair result);
+
+/* a / b. Refused: 2, then 5 where b holds zero, then 4. */
+uint32_t dzb_quotient(int32_t a_lower, int32_t a_upper, int32_t b_lower, int32_t b_upper, bool inward, dzb_pair result);
+
+/* The x of a + c times x = b; mind the order of the arguments: a, c, b. Refused: 2, then 5 where c holds zero, then 4. */
+uint32_t dzb_equation(int32_t a_lower, int32_t a_upper, int32_t c_lower, int32_t c_upper, int32_t b_lower, int32_t b_upper, bool inward,
+                      dzb_pair result);
+
+/* ---- text */
+
+/* The pair whose text the `length` bytes at `text` are, no byte more or less (there is no byte 0 at the end): both ends of `result` are
+ * written. Refused, with nothing written: 1, then 2. */
+uint32_t dzb_read(const uint8_t *text, size_t length, dzb_pair result);
+
+/* The text of a pair: the front of `buffer` is filled with it, and `written` gets its length, at most 27; the bytes behind the text stay as
+ * they were, and no byte 0 is added. Refused, with nothing written to `buffer` nor to `written`: 2, then 3 where `length` is less than
+ * the text's. */
+uint32_t dzb_write(int32_t lower, int32_t upper, uint8_t *buffer, size_t length, size_t *written);
+
+/* ---- lists of steps, lines */
+
+/* The value of a list of steps in a way: both ends of `result` are written. Refused, with nothing written: at a step 10, 6, 7, 2, 8 or 9, or
+ * at the end 11, or only then 4. The number returned has the step too: see dzb_number and dzb_step. */
+uint32_t dzb_list(const uint8_t *list, size_t length, bool inward, dzb_pair result);
+
+/* The answer to a line of the slip program, its byte 10 not among the bytes given: `O` or `I`, one of `A S M D E`, and the pairs, cut at
+ * every single space. Both ends of `result` are written. Refused, with nothing written: 12, 6, of each pair 1 or 2, then 5, 4. */
+uint32_t dzb_line(const uint8_t *line, size_t length, dzb_pair result);
+
+#ifdef __cplusplus
+}
+#endif
+
+#endif
