@@ -86,9 +86,9 @@ def text(e):
     return '%s%d.%03d' % ('-' if e < 0 else '', abs(e) // 1000, abs(e) % 1000)
 
 
-calls = re.findall(r'show\(\s*arithmetic::(\w+)\((.*?)\)\s*,?\s*\);', (HERE / 'src/main.rt').read_text(), re.S)
+calls = re.findall(r'^    (\w+)\(\s*(?:(true|false),\s*)?(-?\d[-\d,\s]*?),?\s*\);', (HERE / 'src/main.rt').read_text(), re.M)
 lines = []
-for operation, arguments in calls:
-    pairs = [(int(l), int(u)) for l, u in re.findall(r'Interval::new\(\s*(-?\d+),\s*(-?\d+),?\s*\)', arguments + ')')]
-    lines.append(answer(operation, pairs, 'Inward' in arguments))
+for operation, inward, numbers in calls:
+    ends = [int(n) for n in numbers.split(',')]
+    lines.append(answer(operation, list(zip(ends[::2], ends[1::2])), inward == 'true'))
 (HERE / 'stdout').write_text('\n'.join(lines) + '\n')

@@ -35,340 +35,173 @@ fn show(answer: Answer) {
     io::write_all(STDOUT_FILENO, b"\n");
 }
 
+fn rounding(inward: bool) -> Rounding {
+    if inward {
+        Rounding::Inward
+    } else {
+        Rounding::Outward
+    }
+}
+
+fn negation(l: i32, u: i32) {
+    show(arithmetic::negation(Interval::new(l, u)));
+}
+
+fn opposite(l: i32, u: i32) {
+    show(arithmetic::opposite(Interval::new(l, u)));
+}
+
+fn dual(l: i32, u: i32) {
+    show(arithmetic::dual(Interval::new(l, u)));
+}
+
+fn join(al: i32, au: i32, bl: i32, bu: i32) {
+    show(arithmetic::join(Interval::new(al, au), Interval::new(bl, bu)));
+}
+
+fn meet(al: i32, au: i32, bl: i32, bu: i32) {
+    show(arithmetic::meet(Interval::new(al, au), Interval::new(bl, bu)));
+}
+
+fn sum(inward: bool, al: i32, au: i32, bl: i32, bu: i32) {
+    let a = Interval::new(al, au);
+    let b = Interval::new(bl, bu);
+    show(arithmetic::sum(a, b, rounding(inward)));
+}
+
+fn difference(inward: bool, al: i32, au: i32, bl: i32, bu: i32) {
+    let a = Interval::new(al, au);
+    let b = Interval::new(bl, bu);
+    show(arithmetic::difference(a, b, rounding(inward)));
+}
+
+fn product(inward: bool, al: i32, au: i32, bl: i32, bu: i32) {
+    let a = Interval::new(al, au);
+    let b = Interval::new(bl, bu);
+    show(arithmetic::product(a, b, rounding(inward)));
+}
+
+fn quotient(inward: bool, al: i32, au: i32, bl: i32, bu: i32) {
+    let a = Interval::new(al, au);
+    let b = Interval::new(bl, bu);
+    show(arithmetic::quotient(a, b, rounding(inward)));
+}
+
+fn equation(inward: bool, al: i32, au: i32, cl: i32, cu: i32, bl: i32, bu: i32) {
+    let a = Interval::new(al, au);
+    let c = Interval::new(cl, cu);
+    let b = Interval::new(bl, bu);
+    show(arithmetic::equation(a, c, b, rounding(inward)));
+}
+
 // 01, "Values to meet": those that are run.
 fn values_to_meet() {
-    show(arithmetic::product(
-        Interval::new(2000000, 2000000),
-        Interval::new(1000000, 1000000),
-        Rounding::Outward,
-    ));
-    show(arithmetic::product(
-        Interval::new(2000000, 2000000),
-        Interval::new(1000001, 1000001),
-        Rounding::Outward,
-    ));
-    show(arithmetic::sum(
-        Interval::new(2000000000, 2000000000),
-        Interval::new(1, 1),
-        Rounding::Outward,
-    ));
-    show(arithmetic::quotient(
-        Interval::new(1000, 2000),
-        Interval::new(1, 1),
-        Rounding::Outward,
-    ));
-    show(arithmetic::quotient(
-        Interval::new(1000, 2000),
-        Interval::new(0, 1),
-        Rounding::Outward,
-    ));
-    show(arithmetic::quotient(
-        Interval::new(1000, 2000),
-        Interval::new(1, 0),
-        Rounding::Outward,
-    ));
+    product(false, 2000000, 2000000, 1000000, 1000000);
+    product(false, 2000000, 2000000, 1000001, 1000001);
+    sum(false, 2000000000, 2000000000, 1, 1);
+    quotient(false, 1000, 2000, 1, 1);
+    quotient(false, 1000, 2000, 0, 1);
+    quotient(false, 1000, 2000, 1, 0);
 }
 
 // The ends of the range, and one thousandth beyond them: 2, then 5, then 4.
 fn range() {
-    show(arithmetic::sum(
-        Interval::new(-2000000000, 2000000000),
-        Interval::new(0, 0),
-        Rounding::Outward,
-    ));
-    show(arithmetic::difference(
-        Interval::new(-2000000000, 2000000000),
-        Interval::new(2000000000, -2000000000),
-        Rounding::Outward,
-    ));
-    show(arithmetic::sum(
-        Interval::new(2000000001, 0),
-        Interval::new(0, 0),
-        Rounding::Outward,
-    ));
-    show(arithmetic::sum(
-        Interval::new(0, 0),
-        Interval::new(0, -2000000001),
-        Rounding::Outward,
-    ));
-    show(arithmetic::product(
-        Interval::new(2147483647, 0),
-        Interval::new(-2147483648, 0),
-        Rounding::Inward,
-    ));
-    show(arithmetic::quotient(
-        Interval::new(2000000001, 0),
-        Interval::new(0, 1000),
-        Rounding::Outward,
-    ));
-    show(arithmetic::quotient(
-        Interval::new(1000, 1000),
-        Interval::new(0, 2000000001),
-        Rounding::Outward,
-    ));
-    show(arithmetic::equation(
-        Interval::new(0, 0),
-        Interval::new(0, 1000),
-        Interval::new(2000000001, 0),
-        Rounding::Outward,
-    ));
-    show(arithmetic::equation(
-        Interval::new(0, 0),
-        Interval::new(0, 1000),
-        Interval::new(1000, 1000),
-        Rounding::Outward,
-    ));
-    show(arithmetic::equation(
-        Interval::new(-2000000000, 2000000000),
-        Interval::new(1, 1),
-        Interval::new(2000000000, -2000000000),
-        Rounding::Outward,
-    ));
-    show(arithmetic::equation(
-        Interval::new(0, 0),
-        Interval::new(1000, 1000),
-        Interval::new(-2000000000, 2000000000),
-        Rounding::Outward,
-    ));
-    show(arithmetic::product(
-        Interval::new(2000000000, 2000000000),
-        Interval::new(1000, 1000),
-        Rounding::Outward,
-    ));
-    show(arithmetic::product(
-        Interval::new(1414213, 1414213),
-        Interval::new(1414213, 1414213),
-        Rounding::Outward,
-    ));
+    sum(false, -2000000000, 2000000000, 0, 0);
+    difference(false, -2000000000, 2000000000, 2000000000, -2000000000);
+    sum(false, 2000000001, 0, 0, 0);
+    sum(false, 0, 0, 0, -2000000001);
+    product(true, 2147483647, 0, -2147483648, 0);
+    quotient(false, 2000000001, 0, 0, 1000);
+    quotient(false, 1000, 1000, 0, 2000000001);
+    equation(false, 0, 0, 0, 1000, 2000000001, 0);
+    equation(false, 0, 0, 0, 1000, 1000, 1000);
+    equation(
+        false,
+        -2000000000,
+        2000000000,
+        1,
+        1,
+        2000000000,
+        -2000000000,
+    );
+    equation(false, 0, 0, 1000, 1000, -2000000000, 2000000000);
+    product(false, 2000000000, 2000000000, 1000, 1000);
+    product(false, 1414213, 1414213, 1414213, 1414213);
 }
 
 // 4 is judged on the rounded end: an exact upper end between 2000000.000 and 2000000.001.
 fn one_way_only() {
-    show(arithmetic::product(
-        Interval::new(1000, 1998001999),
-        Interval::new(1000, 1001),
-        Rounding::Outward,
-    ));
-    show(arithmetic::product(
-        Interval::new(1000, 1998001999),
-        Interval::new(1000, 1001),
-        Rounding::Inward,
-    ));
-    show(arithmetic::equation(
-        Interval::new(0, -2000001),
-        Interval::new(1001, 1001),
-        Interval::new(0, 2000000000),
-        Rounding::Outward,
-    ));
-    show(arithmetic::equation(
-        Interval::new(0, -2000001),
-        Interval::new(1001, 1001),
-        Interval::new(0, 2000000000),
-        Rounding::Inward,
-    ));
-    show(arithmetic::quotient(
-        Interval::new(2000000000, 2000000000),
-        Interval::new(999, 1000),
-        Rounding::Outward,
-    ));
-    show(arithmetic::quotient(
-        Interval::new(1999999999, 1999999999),
-        Interval::new(1000, 999),
-        Rounding::Outward,
-    ));
+    product(false, 1000, 1998001999, 1000, 1001);
+    product(true, 1000, 1998001999, 1000, 1001);
+    equation(false, 0, -2000001, 1001, 1001, 0, 2000000000);
+    equation(true, 0, -2000001, 1001, 1001, 0, 2000000000);
+    quotient(false, 2000000000, 2000000000, 999, 1000);
+    quotient(false, 1999999999, 1999999999, 1000, 999);
 }
 
 // Down is towards minus infinity, also below zero; thousandths are the smallest.
 fn below_zero() {
-    show(arithmetic::product(
-        Interval::new(-1, -1),
-        Interval::new(1, 1),
-        Rounding::Outward,
-    ));
-    show(arithmetic::product(Interval::new(-1, -1), Interval::new(1, 1), Rounding::Inward));
-    show(arithmetic::product(
-        Interval::new(-1, 1),
-        Interval::new(-1, 1),
-        Rounding::Outward,
-    ));
-    show(arithmetic::product(Interval::new(-1, 1), Interval::new(-1, 1), Rounding::Inward));
-    show(arithmetic::product(
-        Interval::new(1, -1),
-        Interval::new(1, -1),
-        Rounding::Outward,
-    ));
-    show(arithmetic::quotient(
-        Interval::new(-1, 1),
-        Interval::new(3000, 3000),
-        Rounding::Outward,
-    ));
-    show(arithmetic::quotient(
-        Interval::new(-1, 1),
-        Interval::new(3000, 3000),
-        Rounding::Inward,
-    ));
-    show(arithmetic::quotient(
-        Interval::new(-1, 1),
-        Interval::new(-3000, -3000),
-        Rounding::Outward,
-    ));
-    show(arithmetic::quotient(
-        Interval::new(-1, 1),
-        Interval::new(-3000, -3000),
-        Rounding::Inward,
-    ));
-    show(arithmetic::quotient(
-        Interval::new(1000, 2000),
-        Interval::new(1000, 2000),
-        Rounding::Outward,
-    ));
-    show(arithmetic::quotient(
-        Interval::new(-7000, -7000),
-        Interval::new(2000, 2000),
-        Rounding::Outward,
-    ));
+    product(false, -1, -1, 1, 1);
+    product(true, -1, -1, 1, 1);
+    product(false, -1, 1, -1, 1);
+    product(true, -1, 1, -1, 1);
+    product(false, 1, -1, 1, -1);
+    quotient(false, -1, 1, 3000, 3000);
+    quotient(true, -1, 1, 3000, 3000);
+    quotient(false, -1, 1, -3000, -3000);
+    quotient(true, -1, 1, -3000, -3000);
+    quotient(false, 1000, 2000, 1000, 2000);
+    quotient(false, -7000, -7000, 2000, 2000);
 }
 
 // A pair with a zero end holds zero, proper or improper.
 fn zero_ends() {
-    show(arithmetic::product(
-        Interval::new(0, 5000),
-        Interval::new(2000, 3000),
-        Rounding::Outward,
-    ));
-    show(arithmetic::product(
-        Interval::new(5000, 0),
-        Interval::new(2000, 3000),
-        Rounding::Outward,
-    ));
-    show(arithmetic::product(
-        Interval::new(0, 5000),
-        Interval::new(3000, 2000),
-        Rounding::Outward,
-    ));
-    show(arithmetic::product(
-        Interval::new(5000, 0),
-        Interval::new(-2000, -3000),
-        Rounding::Outward,
-    ));
-    show(arithmetic::product(
-        Interval::new(0, 5000),
-        Interval::new(5000, 0),
-        Rounding::Outward,
-    ));
-    show(arithmetic::product(
-        Interval::new(-5000, 0),
-        Interval::new(0, -5000),
-        Rounding::Outward,
-    ));
-    show(arithmetic::product(
-        Interval::new(0, 0),
-        Interval::new(-2000, 7000),
-        Rounding::Outward,
-    ));
-    show(arithmetic::product(
-        Interval::new(-2000, -3000),
-        Interval::new(4000, -1000),
-        Rounding::Outward,
-    ));
-    show(arithmetic::product(
-        Interval::new(-3000, -2000),
-        Interval::new(-1000, 4000),
-        Rounding::Outward,
-    ));
+    product(false, 0, 5000, 2000, 3000);
+    product(false, 5000, 0, 2000, 3000);
+    product(false, 0, 5000, 3000, 2000);
+    product(false, 5000, 0, -2000, -3000);
+    product(false, 0, 5000, 5000, 0);
+    product(false, -5000, 0, 0, -5000);
+    product(false, 0, 0, -2000, 7000);
+    product(false, -2000, -3000, 4000, -1000);
+    product(false, -3000, -2000, -1000, 4000);
 }
 
 // Negation, opposite, dual, join and meet never round and never leave the range.
 fn one_or_two() {
-    show(arithmetic::negation(Interval::new(2000000000, -2000000000)));
-    show(arithmetic::negation(Interval::new(-3000, 4001)));
-    show(arithmetic::opposite(Interval::new(-3000, 4001)));
-    show(arithmetic::dual(Interval::new(-3000, 4001)));
-    show(arithmetic::join(Interval::new(-3000, 4000), Interval::new(5000, 2000)));
-    show(arithmetic::meet(Interval::new(-3000, 4000), Interval::new(5000, 2000)));
-    show(arithmetic::negation(Interval::new(-2147483648, 0)));
-    show(arithmetic::opposite(Interval::new(0, -2147483648)));
-    show(arithmetic::dual(Interval::new(0, 2000000001)));
-    show(arithmetic::join(Interval::new(2000000001, 0), Interval::new(0, 0)));
-    show(arithmetic::meet(Interval::new(0, 0), Interval::new(0, -2000000001)));
+    negation(2000000000, -2000000000);
+    negation(-3000, 4001);
+    opposite(-3000, 4001);
+    dual(-3000, 4001);
+    join(-3000, 4000, 5000, 2000);
+    meet(-3000, 4000, 5000, 2000);
+    negation(-2147483648, 0);
+    opposite(0, -2147483648);
+    dual(0, 2000000001);
+    join(2000000001, 0, 0, 0);
+    meet(0, 0, 0, -2000000001);
 }
 
-// Source document 000: Out[39], [59], [64], [68], [123], [124] both ways, [137], [140], [141].
+// Source document 000: Out[39], [59], [64], [68], [119] put right, [123], [124], the equations both ways; products of [137], [140], [141].
 fn sources() {
-    show(arithmetic::meet(Interval::new(-12000, -3000), Interval::new(4000, 7000)));
-    show(arithmetic::sum(
-        Interval::new(2000, 3000),
-        Interval::new(5700, 5700),
-        Rounding::Outward,
-    ));
-    show(arithmetic::difference(
-        Interval::new(3100, -2000),
-        Interval::new(-2000, 3100),
-        Rounding::Outward,
-    ));
-    show(arithmetic::quotient(
-        Interval::new(-7300, -1000),
-        Interval::new(-1000, -7300),
-        Rounding::Outward,
-    ));
-    show(arithmetic::equation(
-        Interval::new(2000, 3000),
-        Interval::new(-1000, 1000),
-        Interval::new(0, 0),
-        Rounding::Outward,
-    ));
-    show(arithmetic::equation(
-        Interval::new(5100, 3000),
-        Interval::new(-7200, -11500),
-        Interval::new(1000, 2000),
-        Rounding::Outward,
-    ));
-    show(arithmetic::equation(
-        Interval::new(5100, 3000),
-        Interval::new(-7200, -11500),
-        Interval::new(1000, 2000),
-        Rounding::Inward,
-    ));
-    show(arithmetic::product(
-        Interval::new(4000, 2000),
-        Interval::new(0, 1000),
-        Rounding::Outward,
-    ));
-    show(arithmetic::product(
-        Interval::new(1000, -1000),
-        Interval::new(0, 1000),
-        Rounding::Outward,
-    ));
-    show(arithmetic::product(
-        Interval::new(2000, 4000),
-        Interval::new(-750, 750),
-        Rounding::Outward,
-    ));
-    show(arithmetic::product(
-        Interval::new(-1000, 1000),
-        Interval::new(375, -375),
-        Rounding::Outward,
-    ));
-    show(arithmetic::product(
-        Interval::new(-1000, 1000),
-        Interval::new(-750, 750),
-        Rounding::Outward,
-    ));
-    show(arithmetic::product(
-        Interval::new(2000, 4000),
-        Interval::new(375, -375),
-        Rounding::Outward,
-    ));
-    show(arithmetic::product(
-        Interval::new(4000, 2000),
-        Interval::new(-1500, 1500),
-        Rounding::Outward,
-    ));
-    show(arithmetic::product(
-        Interval::new(1000, -1000),
-        Interval::new(-1500, 1500),
-        Rounding::Outward,
-    ));
+    meet(-12000, -3000, 4000, 7000);
+    sum(false, 2000, 3000, 5700, 5700);
+    difference(false, 3100, -2000, -2000, 3100);
+    quotient(false, -7300, -1000, -1000, -7300);
+    equation(false, 2000, 3000, 1000, 1000, 0, 0);
+    equation(true, 2000, 3000, 1000, 1000, 0, 0);
+    equation(false, 2000, 3000, -1000, 1000, 0, 0);
+    equation(true, 2000, 3000, -1000, 1000, 0, 0);
+    equation(false, 5100, 3000, -7200, -11500, 1000, 2000);
+    equation(true, 5100, 3000, -7200, -11500, 1000, 2000);
+    product(false, 4000, 2000, 0, 1000);
+    product(false, 1000, -1000, 0, 1000);
+    product(false, 2000, 4000, -750, 750);
+    product(false, -1000, 1000, 375, -375);
+    product(false, -1000, 1000, -750, 750);
+    product(false, 2000, 4000, 375, -375);
+    product(false, 4000, 2000, -1500, 1500);
+    product(false, 1000, -1000, -1500, 1500);
 }
 
 fn main() {
