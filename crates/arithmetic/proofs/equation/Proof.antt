@@ -2,6 +2,7 @@
 use borrow.Author.Needs.{needs}
 use mathlib.Core.Path.{_≡_, refl, sym, _∙_}
 use mathlib.Core.Bool.{Bool, true, false, _||_}
+use lib.IntN.{_-ℤ_}
 use mir.Syntax.{w64}
 use Rattle.integers.specs.Locals.{got}
 use Rattle.directed.specs.declared.Interval.{Interval}
@@ -63,9 +64,10 @@ returns-3 c =
     let s = p .before .before in
     let f = back s in
     let v = s .args in
+    let d : l .difference .result ≡ v .b .lower -ℤ v .a .lower = cc (f .0, f .2, l .difference .ensures .0) in
+    let e : u .difference2 .result ≡ v .b .upper -ℤ v .a .upper = cc (f .1, f .3, u .difference2 .ensures .0) in
     answered _ _ _ _ _ (p .before .is-beyond-range .ensures) _ (q .before .either-beyond .ensures) (p .if1 .left) _ (q .if2 .left)
-    (rw (got w64 (l .difference .ok) (rw (f .2, f .0) at (l .difference .ensures .0)), got w64 (u .difference2 .ok) (rw (f .3, f .1) at (u .difference2 .ensures .0)), f .4, f .5) at (c .divided .ensures)
-    ∙ equation-divided (v .rounding) (v .a) (v .c) (v .b))
+    (rw (got w64 (l .difference .ok) d, got w64 (u .difference2 .ok) e, f .4, f .5) at (c .divided .ensures) ∙ equation-divided (v .rounding) (v .a) (v .c) (v .b))
 
 pub equation-spec : {M : Type 1} → statement M
 equation-spec =

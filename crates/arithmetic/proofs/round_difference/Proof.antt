@@ -1,6 +1,7 @@
 -- The differences of opposite ends, which are exact. Assumes nothing.
 use borrow.Author.Needs.{needs}
-use mathlib.Core.Path.{sym, ap, _∙_}
+use mathlib.Core.Path.{_≡_, sym, ap, _∙_}
+use lib.IntN.{_-ℤ_}
 use mir.Syntax.{w64}
 use Rattle.integers.specs.Locals.{got}
 use Rattle.directed.specs.Answer.{in-range}
@@ -27,7 +28,9 @@ returns c =
     let l = u .before .before .before in
     let s = l .before .before .before in
     let f = back s in
-    landed (c .in-range .ensures) (got w64 (l .difference .ok) (rw (f .0, f .3) at (l .difference .ensures .0))) (got w64 (u .difference2 .ok) (rw (f .1, f .2) at (u .difference2 .ensures .0))) ∙ ap in-range (sym (difference-rounded (s .args .rounding) (s .args .a) (s .args .b)))
+    let d : l .difference .result ≡ s .args .a .lower -ℤ s .args .b .upper = cc (f .0, f .3, l .difference .ensures .0) in
+    let e : u .difference2 .result ≡ s .args .a .upper -ℤ s .args .b .lower = cc (f .1, f .2, u .difference2 .ensures .0) in
+    landed (c .in-range .ensures) (got w64 (l .difference .ok) d) (got w64 (u .difference2 .ok) e) ∙ ap in-range (sym (difference-rounded (s .args .rounding) (s .args .a) (s .args .b)))
 
 pub round-difference-spec : {M : Type 1} → statement M
 round-difference-spec = tie.close (tie.spec difference-requires difference-requires-2 in-range-requires returns)

@@ -1,5 +1,6 @@
 -- The ends change places. Assumes nothing.
 use borrow.Author.Needs.{needs}
+use mathlib.Core.Path.{_≡_}
 use mir.Syntax.{w64}
 use Rattle.integers.specs.Locals.{got}
 use Rattle.arithmetic.proofs.Shared.{Same, landed}
@@ -22,8 +23,11 @@ returns : tie.Need-returns
 returns c =
     let u = c .before in
     let l = u .before .before in
-    let f = back (l .before .before) in
-    landed (c .in-range .ensures) (got w64 (l .wide .ok) (rw (f .1) at (l .wide .ensures .0))) (got w64 (u .wide2 .ok) (rw (f .0) at (u .wide2 .ensures .0)))
+    let s = l .before .before in
+    let f = back s in
+    let d : l .wide .result ≡ s .args .a .upper = cc (f .1, l .wide .ensures .0) in
+    let e : u .wide2 .result ≡ s .args .a .lower = cc (f .0, u .wide2 .ensures .0) in
+    landed (c .in-range .ensures) (got w64 (l .wide .ok) d) (got w64 (u .wide2 .ok) e)
 
 pub round-dual-spec : {M : Type 1} → statement M
 round-dual-spec = tie.close (tie.spec wide-requires wide-requires-2 in-range-requires returns)

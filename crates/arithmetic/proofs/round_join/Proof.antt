@@ -1,7 +1,9 @@
 -- The smaller of the lower ends and the larger of the upper ones. Assumes nothing.
 use borrow.Author.Needs.{needs}
+use mathlib.Core.Path.{_≡_}
 use mir.Syntax.{w64}
 use Rattle.integers.specs.Locals.{got}
+use Rattle.directed.specs.Thousandths.{smaller, larger}
 use Rattle.arithmetic.proofs.Shared.{Same, landed}
 use Rattle.arithmetic.proofs.round_join.Statement.{statement}
 use Rattle.arithmetic.proofs.round_join.Tie as tie
@@ -24,7 +26,9 @@ returns c =
     let l = u .before .before .before in
     let s = l .before .before .before in
     let f = back s in
-    landed (c .in-range .ensures) (got w64 (l .smaller .ok) (rw (f .0, f .2) at (l .smaller .ensures))) (got w64 (u .larger .ok) (rw (f .1, f .3) at (u .larger .ensures)))
+    let d : l .smaller .result ≡ smaller (s .args .a .lower) (s .args .b .lower) = cc (f .0, f .2, l .smaller .ensures) in
+    let e : u .larger .result ≡ larger (s .args .a .upper) (s .args .b .upper) = cc (f .1, f .3, u .larger .ensures) in
+    landed (c .in-range .ensures) (got w64 (l .smaller .ok) d) (got w64 (u .larger .ok) e)
 
 pub round-join-spec : {M : Type 1} → statement M
 round-join-spec = tie.close (tie.spec smaller-requires larger-requires in-range-requires returns)

@@ -1,7 +1,9 @@
 -- The larger of the lower ends and the smaller of the upper ones. Assumes nothing.
 use borrow.Author.Needs.{needs}
+use mathlib.Core.Path.{_≡_}
 use mir.Syntax.{w64}
 use Rattle.integers.specs.Locals.{got}
+use Rattle.directed.specs.Thousandths.{smaller, larger}
 use Rattle.arithmetic.proofs.Shared.{Same, landed}
 use Rattle.arithmetic.proofs.round_meet.Statement.{statement}
 use Rattle.arithmetic.proofs.round_meet.Tie as tie
@@ -24,7 +26,9 @@ returns c =
     let l = u .before .before .before in
     let s = l .before .before .before in
     let f = back s in
-    landed (c .in-range .ensures) (got w64 (l .larger .ok) (rw (f .0, f .2) at (l .larger .ensures))) (got w64 (u .smaller .ok) (rw (f .1, f .3) at (u .smaller .ensures)))
+    let d : l .larger .result ≡ larger (s .args .a .lower) (s .args .b .lower) = cc (f .0, f .2, l .larger .ensures) in
+    let e : u .smaller .result ≡ smaller (s .args .a .upper) (s .args .b .upper) = cc (f .1, f .3, u .smaller .ensures) in
+    landed (c .in-range .ensures) (got w64 (l .larger .ok) d) (got w64 (u .smaller .ok) e)
 
 pub round-meet-spec : {M : Type 1} → statement M
 round-meet-spec = tie.close (tie.spec larger-requires smaller-requires in-range-requires returns)

@@ -1,5 +1,7 @@
 -- Each end is negated in its place. Assumes nothing.
 use borrow.Author.Needs.{needs}
+use mathlib.Core.Path.{_≡_}
+use lib.IntN.{negℤ}
 use mir.Syntax.{w64}
 use Rattle.integers.specs.Locals.{got}
 use Rattle.arithmetic.proofs.Shared.{Same, landed}
@@ -22,8 +24,11 @@ returns : tie.Need-returns
 returns c =
     let u = c .before in
     let l = u .before .before in
-    let f = back (l .before .before) in
-    landed (c .in-range .ensures) (got w64 (l .negation .ok) (rw (f .0) at (l .negation .ensures))) (got w64 (u .negation2 .ok) (rw (f .1) at (u .negation2 .ensures)))
+    let s = l .before .before in
+    let f = back s in
+    let d : l .negation .result ≡ negℤ (s .args .a .lower) = cc (f .0, l .negation .ensures) in
+    let e : u .negation2 .result ≡ negℤ (s .args .a .upper) = cc (f .1, u .negation2 .ensures) in
+    landed (c .in-range .ensures) (got w64 (l .negation .ok) d) (got w64 (u .negation2 .ok) e)
 
 pub round-opposite-spec : {M : Type 1} → statement M
 round-opposite-spec = tie.close (tie.spec negation-requires negation-requires-2 in-range-requires returns)

@@ -1,8 +1,10 @@
 -- a / b is a / dual (dual b). Assumes nothing.
 use borrow.Author.Needs.{needs}
-use mathlib.Core.Path.{_∙_}
+use mathlib.Core.Path.{_≡_, _∙_}
 use mir.Syntax.{w64}
 use Rattle.integers.specs.Locals.{got}
+use Rattle.directed.specs.Answer.{outcome}
+use Rattle.arithmetic.specs.Quotient.{divided}
 use Rattle.arithmetic.specs.QuotientLaws.{quotient-divided}
 use Rattle.arithmetic.proofs.Shared.{Same}
 use Rattle.arithmetic.proofs.round_quotient.Statement.{statement}
@@ -26,8 +28,10 @@ returns c =
     let l = u .before .before in
     let s = l .before .before in
     let f = back s in
-    rw (got w64 (l .wide .ok) (rw (f .0) at (l .wide .ensures .0)), got w64 (u .wide2 .ok) (rw (f .1) at (u .wide2 .ensures .0)), f .2, f .3) at (c .divided .ensures)
-    ∙ quotient-divided (s .args .rounding) (s .args .a) (s .args .b)
+    let d : l .wide .result ≡ s .args .a .lower = cc (f .0, l .wide .ensures .0) in
+    let e : u .wide2 .result ≡ s .args .a .upper = cc (f .1, u .wide2 .ensures .0) in
+    let q : outcome (c .divided .result) ≡ divided (s .args .rounding) (s .args .a .lower) (s .args .a .upper) (s .args .b .upper) (s .args .b .lower) = cc (got w64 (l .wide .ok) d, got w64 (u .wide2 .ok) e, f .2, f .3, c .divided .ensures) in
+    q ∙ quotient-divided (s .args .rounding) (s .args .a) (s .args .b)
 
 pub round-quotient-spec : {M : Type 1} → statement M
 round-quotient-spec = tie.close (tie.spec wide-requires wide-requires-2 divided-requires returns)

@@ -1,6 +1,7 @@
 -- The sums of the ends, which are exact. Assumes nothing.
 use borrow.Author.Needs.{needs}
-use mathlib.Core.Path.{sym, ap, _∙_}
+use mathlib.Core.Path.{_≡_, sym, ap, _∙_}
+use lib.IntN.{_+ℤ_}
 use mir.Syntax.{w64}
 use Rattle.integers.specs.Locals.{got}
 use Rattle.directed.specs.Answer.{in-range}
@@ -27,7 +28,9 @@ returns c =
     let l = u .before .before .before in
     let s = l .before .before .before in
     let f = back s in
-    landed (c .in-range .ensures) (got w64 (l .sum .ok) (rw (f .0, f .2) at (l .sum .ensures))) (got w64 (u .sum2 .ok) (rw (f .1, f .3) at (u .sum2 .ensures))) ∙ ap in-range (sym (sum-rounded (s .args .rounding) (s .args .a) (s .args .b)))
+    let d : l .sum .result ≡ s .args .a .lower +ℤ s .args .b .lower = cc (f .0, f .2, l .sum .ensures) in
+    let e : u .sum2 .result ≡ s .args .a .upper +ℤ s .args .b .upper = cc (f .1, f .3, u .sum2 .ensures) in
+    landed (c .in-range .ensures) (got w64 (l .sum .ok) d) (got w64 (u .sum2 .ok) e) ∙ ap in-range (sym (sum-rounded (s .args .rounding) (s .args .a) (s .args .b)))
 
 pub round-sum-spec : {M : Type 1} → statement M
 round-sum-spec = tie.close (tie.spec sum-requires sum-requires-2 in-range-requires returns)
