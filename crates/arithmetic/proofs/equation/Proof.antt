@@ -1,6 +1,6 @@
 -- 2 first, then d / dual c of the difference d. Assumes nothing.
 use borrow.Author.Needs.{needs}
-use mathlib.Core.Path.{_≡_, refl, sym, _∙_}
+use mathlib.Core.Path.{_≡_, refl, sym, ap₂, _∙_}
 use mathlib.Core.Bool.{Bool, true, false, _||_}
 use lib.IntN.{_-ℤ_}
 use mir.Syntax.{w64}
@@ -64,8 +64,8 @@ returns-3 c =
     let s = p .before .before in
     let f = back s in
     let v = s .args in
-    let d : l .difference .result ≡ v .b .lower -ℤ v .a .lower = cc (f .0, f .2, l .difference .ensures .0) in
-    let e : u .difference2 .result ≡ v .b .upper -ℤ v .a .upper = cc (f .1, f .3, u .difference2 .ensures .0) in
+    let d : l .difference .result ≡ v .b .lower -ℤ v .a .lower = l .difference .ensures .0 ∙ ap₂ _-ℤ_ (f .2) (f .0) in
+    let e : u .difference2 .result ≡ v .b .upper -ℤ v .a .upper = u .difference2 .ensures .0 ∙ ap₂ _-ℤ_ (f .3) (f .1) in
     answered _ _ _ _ _ (p .before .is-beyond-range .ensures) _ (q .before .either-beyond .ensures) (p .if1 .left) _ (q .if2 .left)
     (rw (got w64 (l .difference .ok) d, got w64 (u .difference2 .ok) e, f .4, f .5) at (c .divided .ensures) ∙ equation-divided (v .rounding) (v .a) (v .c) (v .b))
 

@@ -1,6 +1,6 @@
 -- The differences of opposite ends, which are exact. Assumes nothing.
 use borrow.Author.Needs.{needs}
-use mathlib.Core.Path.{_≡_, sym, ap, _∙_}
+use mathlib.Core.Path.{_≡_, sym, ap, ap₂, _∙_}
 use lib.IntN.{_-ℤ_}
 use mir.Syntax.{w64}
 use Rattle.integers.specs.Locals.{got}
@@ -28,8 +28,8 @@ returns c =
     let l = u .before .before .before in
     let s = l .before .before .before in
     let f = back s in
-    let d : l .difference .result ≡ s .args .a .lower -ℤ s .args .b .upper = cc (f .0, f .3, l .difference .ensures .0) in
-    let e : u .difference2 .result ≡ s .args .a .upper -ℤ s .args .b .lower = cc (f .1, f .2, u .difference2 .ensures .0) in
+    let d : l .difference .result ≡ s .args .a .lower -ℤ s .args .b .upper = l .difference .ensures .0 ∙ ap₂ _-ℤ_ (f .0) (f .3) in
+    let e : u .difference2 .result ≡ s .args .a .upper -ℤ s .args .b .lower = u .difference2 .ensures .0 ∙ ap₂ _-ℤ_ (f .1) (f .2) in
     landed (c .in-range .ensures) (got w64 (l .difference .ok) d) (got w64 (u .difference2 .ok) e) ∙ ap in-range (sym (difference-rounded (s .args .rounding) (s .args .a) (s .args .b)))
 
 pub round-difference-spec : {M : Type 1} → statement M

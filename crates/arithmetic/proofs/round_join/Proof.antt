@@ -1,6 +1,6 @@
 -- The smaller of the lower ends and the larger of the upper ones. Assumes nothing.
 use borrow.Author.Needs.{needs}
-use mathlib.Core.Path.{_≡_}
+use mathlib.Core.Path.{_≡_, ap₂, _∙_}
 use mir.Syntax.{w64}
 use Rattle.integers.specs.Locals.{got}
 use Rattle.directed.specs.Thousandths.{smaller, larger}
@@ -26,8 +26,8 @@ returns c =
     let l = u .before .before .before in
     let s = l .before .before .before in
     let f = back s in
-    let d : l .smaller .result ≡ smaller (s .args .a .lower) (s .args .b .lower) = cc (f .0, f .2, l .smaller .ensures) in
-    let e : u .larger .result ≡ larger (s .args .a .upper) (s .args .b .upper) = cc (f .1, f .3, u .larger .ensures) in
+    let d : l .smaller .result ≡ smaller (s .args .a .lower) (s .args .b .lower) = l .smaller .ensures ∙ ap₂ smaller (f .0) (f .2) in
+    let e : u .larger .result ≡ larger (s .args .a .upper) (s .args .b .upper) = u .larger .ensures ∙ ap₂ larger (f .1) (f .3) in
     landed (c .in-range .ensures) (got w64 (l .smaller .ok) d) (got w64 (u .larger .ok) e)
 
 pub round-join-spec : {M : Type 1} → statement M

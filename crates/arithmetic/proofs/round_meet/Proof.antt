@@ -1,6 +1,6 @@
 -- The larger of the lower ends and the smaller of the upper ones. Assumes nothing.
 use borrow.Author.Needs.{needs}
-use mathlib.Core.Path.{_≡_}
+use mathlib.Core.Path.{_≡_, ap₂, _∙_}
 use mir.Syntax.{w64}
 use Rattle.integers.specs.Locals.{got}
 use Rattle.directed.specs.Thousandths.{smaller, larger}
@@ -26,8 +26,8 @@ returns c =
     let l = u .before .before .before in
     let s = l .before .before .before in
     let f = back s in
-    let d : l .larger .result ≡ larger (s .args .a .lower) (s .args .b .lower) = cc (f .0, f .2, l .larger .ensures) in
-    let e : u .smaller .result ≡ smaller (s .args .a .upper) (s .args .b .upper) = cc (f .1, f .3, u .smaller .ensures) in
+    let d : l .larger .result ≡ larger (s .args .a .lower) (s .args .b .lower) = l .larger .ensures ∙ ap₂ larger (f .0) (f .2) in
+    let e : u .smaller .result ≡ smaller (s .args .a .upper) (s .args .b .upper) = u .smaller .ensures ∙ ap₂ smaller (f .1) (f .3) in
     landed (c .in-range .ensures) (got w64 (l .larger .ok) d) (got w64 (u .smaller .ok) e)
 
 pub round-meet-spec : {M : Type 1} → statement M

@@ -28,8 +28,8 @@ returns c =
     let l = u .before .before in
     let s = l .before .before in
     let f = back s in
-    let d : l .wide .result ≡ s .args .a .lower = cc (f .0, l .wide .ensures .0) in
-    let e : u .wide2 .result ≡ s .args .a .upper = cc (f .1, u .wide2 .ensures .0) in
+    let d : l .wide .result ≡ s .args .a .lower = l .wide .ensures .0 ∙ f .0 in
+    let e : u .wide2 .result ≡ s .args .a .upper = u .wide2 .ensures .0 ∙ f .1 in
     let q : outcome (c .divided .result) ≡ divided (s .args .rounding) (s .args .a .lower) (s .args .a .upper) (s .args .b .upper) (s .args .b .lower) = cc (got w64 (l .wide .ok) d, got w64 (u .wide2 .ok) e, f .2, f .3, c .divided .ensures) in
     q ∙ quotient-divided (s .args .rounding) (s .args .a) (s .args .b)
 

@@ -1,6 +1,6 @@
 -- The sums of the ends, which are exact. Assumes nothing.
 use borrow.Author.Needs.{needs}
-use mathlib.Core.Path.{_≡_, sym, ap, _∙_}
+use mathlib.Core.Path.{_≡_, sym, ap, ap₂, _∙_}
 use lib.IntN.{_+ℤ_}
 use mir.Syntax.{w64}
 use Rattle.integers.specs.Locals.{got}
@@ -28,8 +28,8 @@ returns c =
     let l = u .before .before .before in
     let s = l .before .before .before in
     let f = back s in
-    let d : l .sum .result ≡ s .args .a .lower +ℤ s .args .b .lower = cc (f .0, f .2, l .sum .ensures) in
-    let e : u .sum2 .result ≡ s .args .a .upper +ℤ s .args .b .upper = cc (f .1, f .3, u .sum2 .ensures) in
+    let d : l .sum .result ≡ s .args .a .lower +ℤ s .args .b .lower = l .sum .ensures ∙ ap₂ _+ℤ_ (f .0) (f .2) in
+    let e : u .sum2 .result ≡ s .args .a .upper +ℤ s .args .b .upper = u .sum2 .ensures ∙ ap₂ _+ℤ_ (f .1) (f .3) in
     landed (c .in-range .ensures) (got w64 (l .sum .ok) d) (got w64 (u .sum2 .ok) e) ∙ ap in-range (sym (sum-rounded (s .args .rounding) (s .args .a) (s .args .b)))
 
 pub round-sum-spec : {M : Type 1} → statement M
