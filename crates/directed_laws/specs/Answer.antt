@@ -1,15 +1,17 @@
--- An answer says all of what 01 asks: the outcome fixes the answer, and "each number comes exactly if its cause holds and no cause earlier in the order does." Assumes nothing.
+-- An answer says all of what 01 asks: the outcome fixes the answer, and "each number comes exactly if its cause holds and no cause earlier in the order does."
 use borrow.Author.Tests.{eq-eqb}
 use mathlib.Core.Bool.{Bool, true, false, cond, true≢false}
+use mathlib.Core.List.{List, [], _∷_}
 use mathlib.Core.Logic.{_↔_}
 use mathlib.Core.Path.{_≡_, _∙_, sym, refl, ap}
-use Prim.Native.Nat.{ℕ}
+use Prim.Native.Nat.{ℕ, _-_}
 use native.Mathlib.Omega.{arith}
 use lib.Dec.{eqb}
-use Rattle.directed.specs.Answer.{number, Outcome, outcome, in-range, value, refusal}
-use Rattle.directed.specs.Choice.{if_then_else_}
+use lib.ListN.{getD}
+use Rattle.directed.specs.Answer.{number, Outcome, outcome, built, Judgement, sound, cause, unless, given, in-range, value, refusal}
 use Rattle.directed.specs.Exact.{Exact}
-use Rattle.directed.specs.Thousandths.{_at_, beyond-range, rounded}
+use Rattle.directed.specs.Lift.{interval, faulty}
+use Rattle.directed.specs.Thousandths.{Pair, beyond-range, rounded}
 use Rattle.directed.specs.Tightest.{Tightest}
 use Rattle.directed.specs.declared.Answer.{Answer}
 use Rattle.directed.specs.declared.Answer.the-variants.{Value, Refused}
@@ -17,24 +19,14 @@ use Rattle.directed.specs.declared.Cause.{Cause}
 use Rattle.directed.specs.declared.Cause.the-variants.{Malformed, EndBeyondRange, ShortBuffer, ResultBeyondRange, ZeroDivisor, UnknownCode, ShortConstant, StackUnderflow, StackOverflow, TooManySteps, NotOneValue, MalformedLine}
 use Rattle.directed.specs.declared.Interval.{Interval}
 use Rattle.directed.specs.declared.Rounding.{Rounding}
-use Rattle.directed_laws.specs.Fraction.{≈-refl}
-use Rattle.directed_laws.specs.Rounding.{rounded-tightest, tightest-unique}
+use Rattle.directed_laws.specs.Rounding.{rounded-tightest}
 
 -- ---- no two answers have the same outcome
 of-number : ℕ → Cause
 of-number n =
-    if eqb n 1 then Malformed
-    else (if eqb n 2 then EndBeyondRange
-    else (if eqb n 3 then ShortBuffer
-    else (if eqb n 4 then ResultBeyondRange
-    else (if eqb n 5 then ZeroDivisor
-    else (if eqb n 6 then UnknownCode
-    else (if eqb n 7 then ShortConstant
-    else (if eqb n 8 then StackUnderflow
-    else (if eqb n 9 then StackOverflow
-    else (if eqb n 10 then TooManySteps
-    else (if eqb n 11 then NotOneValue
-    else MalformedLine))))))))))
+    getD
+    (Malformed ∷ EndBeyondRange ∷ ShortBuffer ∷ ResultBeyondRange ∷ ZeroDivisor ∷ UnknownCode ∷ ShortConstant ∷ StackUnderflow ∷ StackOverflow ∷ TooManySteps ∷ NotOneValue ∷ MalformedLine ∷ [])
+    (n - 1) Malformed
 
 of-number-back : (k : Cause) → of-number (number k) ≡ k
 unfolding of-number
@@ -61,78 +53,111 @@ outcome-injective (Refused j) (Value b) e = absurd (let z : _≡_ {A = ℕ} 0 1 
 outcome-injective (Refused j) (Refused k) e = ap Refused (number-injective j k (let f : number j ≡ number k = cc in f))
 
 -- ---- what an operation answers, by its causes
--- beyond: a given end is beyond the range; held: the divisor, or c, holds zero; x: the exact result
-unfoldable pub judged : Rounding → Bool → Bool → Exact → Outcome
-judged rounding beyond held x = if beyond then refusal 2 else (if held then refusal 5 else in-range (rounded rounding x))
+-- what is given, what stops the operation before it computes, and its exact result: 2, then what stops it, then 4
+unfoldable pub judged : Rounding → List Interval → Judgement → Exact → Outcome Pair
+judged rounding operands stop x = unless (given operands) (unless stop (in-range (rounded rounding x)))
 
--- 4 comes exactly if the tightest interval, whatever it is, has an end beyond the range, and a value exactly if it is that interval, in range
-pub record Exactly (rounding : Rounding) (beyond held : Bool) (x : Exact) (o : Outcome) : Type 0 where
-  pub two : (o ≡ refusal 2) ↔ (beyond ≡ true)
-  pub five : (o ≡ refusal 5) ↔ ((beyond ≡ false) × (held ≡ true))
-  pub four : (o ≡ refusal 4) ↔ ((beyond ≡ false) × (held ≡ false) × ((p : Interval) → Tightest rounding x p → beyond-range p ≡ true))
-  pub result : (p : Interval) → (o ≡ value p) ↔ ((beyond ≡ false) × (held ≡ false) × Tightest rounding x p × (beyond-range p ≡ false))
+-- a cause that stops an operation is neither of the two around it
+abbrev pub Between : Judgement → Type 0
+Between stop = (n : ℕ) → stop ≡ cause n → (eqb n 2 ≡ false) × (eqb n 4 ≡ false)
 
--- what can't be
-not-both : {A : Type 0} → _≡_ {A = Bool} true false → A
-not-both e = absurd (true≢false e)
+pub record Exactly (rounding : Rounding) (operands : List Interval) (stop : Judgement) (x : Exact) (o : Outcome Interval) : Type 0 where
+  -- "the tightest pair of thousandths around the exact directed result when outward is asked, and the widest pair within it when inward is asked"
+  pub tightest : Pair
+  pub is-tightest : Tightest rounding x tightest
+  pub two : (o ≡ refusal 2) ↔ (given operands ≡ cause 2)
+  pub stopped : (n : ℕ) → (eqb n 2 ≡ false) × (eqb n 4 ≡ false) → (o ≡ refusal n) ↔ ((given operands ≡ sound) × (stop ≡ cause n))
+  pub four : (o ≡ refusal 4) ↔ ((given operands ≡ sound) × (stop ≡ sound) × (beyond-range tightest ≡ true))
+  pub result : (a : Interval) → (o ≡ value a) ↔ ((given operands ≡ sound) × (stop ≡ sound) × (beyond-range tightest ≡ false) × (a ≡ interval tightest))
 
-clash : {A : Type 0} (m n : ℕ) → eqb m n ≡ false → refusal m ≡ refusal n → A
-clash m n h e = let f : m ≡ n = cc in not-both (sym (eq-eqb m n f) ∙ h)
+-- ---- what is given is judged by 2 alone
+pub given-by : (P : Judgement → Type 0) (operands : List Interval) → P sound → P (cause 2) → P (given operands)
+unfolding given
+given-by P [] s c = s
+given-by P (a ∷ rest) s c = go (faulty a) (given-by P rest s c)
+  where
+    go : (k : Bool) → P (given rest) → P (cond k (cause 2) (given rest))
+    go true h = c
+    go false h = h
 
-clash-value : {A : Type 0} (m : ℕ) (p : Interval) → refusal m ≡ value p → A
-clash-value m p e = absurd (let z : _≡_ {A = ℕ} 0 1 = cc in let f : ⊥ = omega arith in f)
+-- ---- what can't be
+pub refusal-clash : {A : Type 0} (m n : ℕ) → eqb m n ≡ false → _≡_ {A = Outcome A} (refusal m) (refusal n) → ⊥
+refusal-clash m n h e = let f : m ≡ n = cc in true≢false (sym (eq-eqb m n f) ∙ h)
 
-pub tightest-iff : (rounding : Rounding) (x : Exact) (p : Interval) → Tightest rounding x p ↔ (rounded rounding x ≡ p)
-tightest-iff rounding x p = (
-  (λ h. tightest-unique rounding {x = x} {y = x} (λ i. ≈-refl _) (rounded-tightest rounding x) h),
-  (λ e. rw e at (rounded-tightest rounding x)),
-)
+pub refusal-value : {A : Type 0} {m : ℕ} {a : A} → refusal m ≡ value a → ⊥
+refusal-value e = let z : _≡_ {A = ℕ} 0 1 = cc in omega arith
 
-module _ (rounding : Rounding) (x : Exact) where
-  unjudged-four : (in-range (rounded rounding x) ≡ refusal 4) ↔ ((p : Interval) → Tightest rounding x p → beyond-range p ≡ true)
-  unfolding in-range
-  unjudged-four = go (beyond-range (rounded rounding x)) refl
-    where
-      go : (k : Bool) → beyond-range (rounded rounding x) ≡ k → (cond k (refusal 4) (value (rounded rounding x)) ≡ refusal 4) ↔ ((p : Interval) → Tightest rounding x p → beyond-range p ≡ true)
-      go true e = ((λ _ p h. rw (← tightest-iff rounding x p .0 h) e), (λ _. refl))
-      go false e = ((λ h. clash-value 4 _ (sym h)), (λ h. not-both (sym (h _ (rounded-tightest rounding x)) ∙ e)))
+pub sound-cause : {n : ℕ} → sound ≡ cause n → ⊥
+sound-cause e = let z : _≡_ {A = ℕ} 0 1 = cc in omega arith
 
-  unjudged-value : (p : Interval) → (in-range (rounded rounding x) ≡ value p) ↔ (Tightest rounding x p × (beyond-range p ≡ false))
-  unfolding in-range
-  unjudged-value p = go (beyond-range (rounded rounding x)) refl
-    where
-      go : (k : Bool) → beyond-range (rounded rounding x) ≡ k → (cond k (refusal 4) (value (rounded rounding x)) ≡ value p) ↔ (Tightest rounding x p × (beyond-range p ≡ false))
-      go true e = ((λ h. clash-value 4 p h), (λ h. not-both (sym e ∙ ap beyond-range (tightest-iff rounding x p .0 (h .0)) ∙ h .1)))
-      go false e = (
-        (λ h. let f : rounded rounding x ≡ p = cc in (tightest-iff rounding x p .1 f, sym (ap beyond-range f) ∙ e)),
-        (λ h. ap value (tightest-iff rounding x p .0 (h .0))),
-      )
+-- ---- and so: each number exactly if its cause holds and none before it does
+module _ (rounding : Rounding) (operands : List Interval) (stop : Judgement) (x : Exact) (between : Between stop) where
+  Answered : Outcome Interval → Type 0
+  Answered o = Exactly rounding operands stop x o
 
-  unjudged-other : (n : ℕ) → eqb 4 n ≡ false → in-range (rounded rounding x) ≡ refusal n → ⊥
-  unfolding in-range
-  unjudged-other n h = go (beyond-range (rounded rounding x))
-    where
-      go : (k : Bool) → cond k (refusal 4) (value (rounded rounding x)) ≡ refusal n → ⊥
-      go true e = clash 4 n h e
-      go false e = clash-value n _ (sym e)
-
-  pub judged-exactly : (beyond held : Bool) → Exactly rounding beyond held x (judged rounding beyond held x)
-  unfolding judged
-  judged-exactly true held = record {
-    two = ((λ _. refl), (λ _. refl));
-    five = ((λ e. clash 2 5 refl e), (λ h. not-both (h .0)));
-    four = ((λ e. clash 2 4 refl e), (λ h. not-both (h .0)));
-    result = λ p. ((λ e. clash-value 2 p e), (λ h. not-both (h .0)));
+  is-given : given operands ≡ cause 2 → Answered (refusal 2)
+  unfolding Answered
+  is-given g = record {
+    tightest = rounded rounding x;
+    is-tightest = rounded-tightest rounding x;
+    two = ((λ _. g), (λ _. refl));
+    stopped = λ n h. ((λ e. absurd (refusal-clash n 2 (h .0) (sym e))), (λ t. absurd (sound-cause (sym (t .0) ∙ g))));
+    four = ((λ e. absurd (refusal-clash 2 4 refl e)), (λ t. absurd (sound-cause (sym (t .0) ∙ g))));
+    result = λ a. ((λ e. absurd (refusal-value e)), (λ t. absurd (sound-cause (sym (t .0) ∙ g))));
   }
-  judged-exactly false true = record {
-    two = ((λ e. clash 5 2 refl e), (λ h. not-both (sym h)));
-    five = ((λ _. (refl, refl)), (λ _. refl));
-    four = ((λ e. clash 5 4 refl e), (λ h. not-both (h .1)));
-    result = λ p. ((λ e. clash-value 5 p e), (λ h. not-both (h .1)));
+
+  is-stopped : given operands ≡ sound → (m : ℕ) → stop ≡ cause m → Answered (refusal m)
+  unfolding Answered
+  is-stopped g m s = record {
+    tightest = rounded rounding x;
+    is-tightest = rounded-tightest rounding x;
+    two = ((λ e. absurd (refusal-clash m 2 (between m s .0) e)), (λ t. absurd (sound-cause (sym g ∙ t))));
+    stopped = λ n h. ((λ e. (g, s ∙ ap cause (let f : m ≡ n = cc in f))), (λ t. ap refusal (let f : m ≡ n = cc in f)));
+    four = ((λ e. absurd (refusal-clash m 4 (between m s .1) e)), (λ t. absurd (sound-cause (sym (t .1) ∙ s))));
+    result = λ a. ((λ e. absurd (refusal-value e)), (λ t. absurd (sound-cause (sym (t .1) ∙ s))));
   }
-  judged-exactly false false = record {
-    two = ((λ e. absurd (unjudged-other 2 refl e)), (λ h. not-both (sym h)));
-    five = ((λ e. absurd (unjudged-other 5 refl e)), (λ h. not-both (sym (h .1))));
-    four = ((λ e. (refl, refl, unjudged-four .0 e)), (λ h. unjudged-four .1 (h .2)));
-    result = λ p. ((λ e. let t = unjudged-value p .0 e in (refl, refl, t .0, t .1)), (λ h. unjudged-value p .1 (h .2, h .3)));
-  }
+
+  is-computed : given operands ≡ sound → stop ≡ sound → Answered (built (in-range (rounded rounding x)))
+  unfolding Answered in-range
+  is-computed g s = go (beyond-range (rounded rounding x)) refl
+    where
+      go : (k : Bool) → beyond-range (rounded rounding x) ≡ k → Exactly rounding operands stop x (built (cond k (refusal 4) (value (rounded rounding x))))
+      go true k = record {
+        tightest = rounded rounding x;
+        is-tightest = rounded-tightest rounding x;
+        two = ((λ e. absurd (refusal-clash 4 2 refl e)), (λ t. absurd (sound-cause (sym g ∙ t))));
+        stopped = λ n h. ((λ e. absurd (refusal-clash n 4 (h .1) (sym e))), (λ t. absurd (sound-cause (sym s ∙ t .1))));
+        four = ((λ _. (g, s, k)), (λ _. refl));
+        result = λ a. ((λ e. absurd (refusal-value e)), (λ t. absurd (true≢false (sym k ∙ t .2))));
+      }
+      go false k = record {
+        tightest = rounded rounding x;
+        is-tightest = rounded-tightest rounding x;
+        two = ((λ e. absurd (refusal-value (sym e))), (λ t. absurd (sound-cause (sym g ∙ t))));
+        stopped = λ n h. ((λ e. absurd (refusal-value (sym e))), (λ t. absurd (sound-cause (sym s ∙ t .1))));
+        four = ((λ e. absurd (refusal-value (sym e))), (λ t. absurd (true≢false (sym (t .2) ∙ k))));
+        result = λ a. ((λ e. (g, s, k, (let f : a ≡ interval (rounded rounding x) = cc in f))), (λ t. ap value (sym (t .3))));
+      }
+
+  pub judged-exactly : Exactly rounding operands stop x (built (judged rounding operands stop x))
+  unfolding judged Answered
+  judged-exactly = given-by (λ j. given operands ≡ j → Answered (built (unless j (unless stop (in-range (rounded rounding x)))))) operands (λ g. go g stop refl) is-given refl
+    where
+      go : given operands ≡ sound → (j : Judgement) → stop ≡ j → Answered (built (unless j (in-range (rounded rounding x))))
+      go g sound s = is-computed g s
+      go g (cause m) s = is-stopped g m s
+
+-- ---- a value came of nothing in the way, and is the tightest pair, in range
+pub record Made (rounding : Rounding) (stop : Judgement) (x : Exact) (p : Pair) : Type 0 where
+  pub unstopped : stop ≡ sound
+  pub tightest : Tightest rounding x p
+  pub inside : beyond-range p ≡ false
+
+pub made : (rounding : Rounding) (stop : Judgement) (x : Exact) (p : Pair) → unless stop (in-range (rounded rounding x)) ≡ value p → Made rounding stop x p
+unfolding in-range
+made rounding (cause n) x p e = absurd (refusal-value e)
+made rounding sound x p e = go (beyond-range (rounded rounding x)) refl e
+  where
+    go : (k : Bool) → beyond-range (rounded rounding x) ≡ k → cond k (refusal 4) (value (rounded rounding x)) ≡ value p → Made rounding sound x p
+    go true k e = absurd (refusal-value e)
+    go false k e = let f : rounded rounding x ≡ p = cc in record { unstopped = refl; tightest = rw f at (rounded-tightest rounding x); inside = rw f at k }

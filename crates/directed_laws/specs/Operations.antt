@@ -1,74 +1,82 @@
--- Demand 2 for each operation: its answer is the tightest interval of thousandths around, or the widest within, the exact result, and each refusal comes exactly if its cause holds. Assumes nothing.
-use mathlib.Core.Bool.{Bool, true, false, _||_}
-use mathlib.Core.Path.{_≡_, _∙_, refl}
-use Rattle.directed.specs.Answer.{Outcome, outcome, in-range, divided-by, of-one, of-two, negation, opposite, dual, join, meet, sum, difference, product, quotient, value, refusal}
-use Rattle.directed.specs.Choice.{if_then_else_}
+-- Demand 2 for every operation: its answer is the tightest pair of thousandths around, or the widest within, the exact result, and each refusal comes exactly if its cause holds.
+use mathlib.Core.Bool.{false}
+use mathlib.Core.List.{List, [], _∷_}
+use mathlib.Core.Path.{_≡_, _∙_, refl, ap}
+use Rattle.directed.specs.Answer.{Outcome, outcome, built, Judgement, sound, divisor, stop, in-range, unjudged-unary, unjudged-binary, unary, binary, value}
 use Rattle.directed.specs.Exact.{Exact, Sort, sort, zero-free, holds-zero}
-use Rattle.directed.specs.Operations.{_⊞_, _⊟_, _⊠_, _⊘_}
-use Rattle.directed.specs.Thousandths.{exact, beyond-range, rounded}
+use Rattle.directed.specs.Lift.{pair-of}
+use Rattle.directed.specs.Operations as operations
+use Rattle.directed.specs.Thousandths as thousandths
+use Rattle.directed.specs.Thousandths.{Pair, exact, beyond-range}
 use Rattle.directed.specs.declared.Answer.{Answer}
+use Rattle.directed.specs.declared.Binary.{Binary}
+use Rattle.directed.specs.declared.Binary.the-variants.{Sum, Difference, Product, Quotient, Join, Meet}
 use Rattle.directed.specs.declared.Interval.{Interval}
 use Rattle.directed.specs.declared.Rounding.{Rounding}
-use Rattle.directed_laws.specs.Answer.{judged, Exactly, judged-exactly}
-use Rattle.directed_laws.specs.Thousandths.{negation-rounded, opposite-rounded, dual-rounded, join-rounded, meet-rounded, negation-range, opposite-range, dual-range, join-range, meet-range}
-use Rattle.directed.specs.Exact as exactly
+use Rattle.directed.specs.declared.Unary.{Unary}
+use Rattle.directed_laws.specs.Answer.{judged, Between, Exactly, judged-exactly, sound-cause, Made, made}
+use Rattle.directed_laws.specs.Thousandths.{unary-rounded, unary-range, join-rounded, meet-rounded, join-range, meet-range}
 
-unfoldable pub held : Sort → Bool
-held holds-zero = true
-held (zero-free s) = false
+-- ---- what stops an operation is 5 or nothing
+pub sound-between : Between sound
+sound-between n e = absurd (sound-cause e)
 
--- ---- the tests in their order, for any exact result
-pub divided-judged : (rounding : Rounding) (beyond : Bool) (k : Sort) (x : Exact) → (if beyond then refusal 2 else divided-by k (in-range (rounded rounding x))) ≡ judged rounding beyond (held k) x
-unfolding judged divided-by held
-divided-judged rounding true k x = refl
-divided-judged rounding false holds-zero x = refl
-divided-judged rounding false (zero-free s) x = refl
+pub divisor-between : (k : Sort) → Between (divisor k)
+unfolding divisor
+divisor-between (zero-free s) n e = absurd (sound-cause e)
+divisor-between (holds-zero t) n e = let f : 5 ≡ n = cc in rw (← f) (refl, refl)
 
--- what is never rounded and never leaves the range
-kept-judged : (rounding : Rounding) (beyond : Bool) (x : Exact) (a : Interval) → rounded rounding x ≡ a → (beyond ≡ false → beyond-range a ≡ false) → (if beyond then refusal 2 else value a) ≡ judged rounding beyond false x
-unfolding judged in-range
-kept-judged rounding true x a e h = refl
-kept-judged rounding false x a e h = rw (e, h refl) refl
+stop-between : (op : Binary) (k : Sort) → Between (stop op k)
+unfolding stop
+stop-between Sum k = sound-between
+stop-between Difference k = sound-between
+stop-between Product k = sound-between
+stop-between Quotient k = divisor-between k
+stop-between Join k = sound-between
+stop-between Meet k = sound-between
 
--- ---- each operation's answer
-module _ (rounding : Rounding) (a : Interval) where
-  pub negation-judged : negation a ≡ judged rounding (beyond-range a) false (exactly.negation (exact a))
-  unfolding of-one
-  negation-judged = kept-judged rounding _ _ _ (negation-rounded rounding a) (λ h. negation-range a ∙ h)
+-- ---- the answers by their causes and their exact result
+unary-judged : (rounding : Rounding) (op : Unary) (a : Interval) → unary op a ≡ judged rounding (a ∷ []) sound (operations.unary op (exact (pair-of a)))
+unfolding unary unjudged-unary judged
+unary-judged rounding op a = rw (unary-rounded rounding op (pair-of a)) refl
 
-  pub opposite-judged : opposite a ≡ judged rounding (beyond-range a) false (exactly.opposite (exact a))
-  unfolding of-one
-  opposite-judged = kept-judged rounding _ _ _ (opposite-rounded rounding a) (λ h. opposite-range a ∙ h)
+binary-judged : (rounding : Rounding) (op : Binary) (a b : Interval) → binary rounding op a b ≡ judged rounding (a ∷ b ∷ []) (stop op (sort (exact (pair-of b)))) (operations.binary op (exact (pair-of a)) (exact (pair-of b)))
+unfolding binary unjudged-binary judged
+binary-judged rounding op a b = refl
 
-  pub dual-judged : dual a ≡ judged rounding (beyond-range a) false (exactly.dual (exact a))
-  unfolding of-one
-  dual-judged = kept-judged rounding _ _ _ (dual-rounded rounding a) (λ h. dual-range a ∙ h)
+-- ---- so, of what any function returns, by its contract alone
+pub answer-exactly : {rounding : Rounding} {operands : List Interval} {stop : Judgement} {x : Exact} {o : Outcome Pair} (r : Answer) → outcome r ≡ built o → o ≡ judged rounding operands stop x → Between stop → Exactly rounding operands stop x (outcome r)
+answer-exactly {rounding} {operands} {stop} {x} r e f between = rw (e ∙ ap built f) (judged-exactly rounding operands stop x between)
 
-  module _ (b : Interval) where
-    pub join-judged : join a b ≡ judged rounding (beyond-range a || beyond-range b) false (exactly.join (exact a) (exact b))
-    unfolding of-two
-    join-judged = kept-judged rounding _ _ _ (join-rounded rounding a b) (join-range a b)
+pub unary-exactly : (rounding : Rounding) (op : Unary) (a : Interval) (r : Answer) → outcome r ≡ built (unary op a) → Exactly rounding (a ∷ []) sound (operations.unary op (exact (pair-of a))) (outcome r)
+unary-exactly rounding op a r contract = answer-exactly r contract (unary-judged rounding op a) sound-between
 
-    pub meet-judged : meet a b ≡ judged rounding (beyond-range a || beyond-range b) false (exactly.meet (exact a) (exact b))
-    unfolding of-two
-    meet-judged = kept-judged rounding _ _ _ (meet-rounded rounding a b) (meet-range a b)
+pub binary-exactly : (rounding : Rounding) (op : Binary) (a b : Interval) (r : Answer) → outcome r ≡ built (binary rounding op a b) → Exactly rounding (a ∷ b ∷ []) (stop op (sort (exact (pair-of b)))) (operations.binary op (exact (pair-of a)) (exact (pair-of b))) (outcome r)
+binary-exactly rounding op a b r contract = answer-exactly r contract (binary-judged rounding op a b) (stop-between op _)
 
-    pub sum-judged : sum rounding a b ≡ judged rounding (beyond-range a || beyond-range b) false (exact a ⊞ exact b)
-    unfolding of-two judged
-    sum-judged = refl
+-- ---- of pairs that are not judged, as inside a list
+pub unary-made : (rounding : Rounding) (op : Unary) (a p : Pair) → unjudged-unary op a ≡ value p → Made rounding sound (operations.unary op (exact a)) p
+unfolding unjudged-unary
+unary-made rounding op a p e = made rounding sound _ p (rw (unary-rounded rounding op a) e)
 
-    pub difference-judged : difference rounding a b ≡ judged rounding (beyond-range a || beyond-range b) false (exact a ⊟ exact b)
-    unfolding of-two judged
-    difference-judged = refl
+pub binary-made : (rounding : Rounding) (op : Binary) (a b p : Pair) → unjudged-binary rounding op a b ≡ value p → Made rounding (stop op (sort (exact b))) (operations.binary op (exact a) (exact b)) p
+unfolding unjudged-binary
+binary-made rounding op a b p e = made rounding _ _ p e
 
-    pub product-judged : product rounding a b ≡ judged rounding (beyond-range a || beyond-range b) false (exact a ⊠ exact b)
-    unfolding of-two judged
-    product-judged = refl
+-- ---- "These never round and never leave the range."
+in-range-kept : (p : Pair) → beyond-range p ≡ false → in-range p ≡ value p
+unfolding in-range
+in-range-kept p h = rw h refl
 
-    pub quotient-judged : quotient rounding a b ≡ judged rounding (beyond-range a || beyond-range b) (held (sort (exact b))) (exact a ⊘ exact b)
-    unfolding of-two
-    quotient-judged = divided-judged rounding _ _ _
+pub unary-kept : (op : Unary) (a : Pair) → beyond-range a ≡ false → unjudged-unary op a ≡ value (thousandths.unary op a)
+unfolding unjudged-unary
+unary-kept op a h = in-range-kept _ (unary-range op a ∙ h)
 
--- ---- so: 2, 5 and 4 exactly if their causes hold, in this order, and else the tightest interval; of what a function returns, by its contract
-pub answer-exactly : {rounding : Rounding} {beyond held : Bool} {x : Exact} (r : Answer) {o : Outcome} → outcome r ≡ o → o ≡ judged rounding beyond held x → Exactly rounding beyond held x (outcome r)
-answer-exactly {rounding} {beyond} {held} {x} r e f = rw (e ∙ f) (judged-exactly rounding x beyond held)
+module _ (rounding : Rounding) (a b : Pair) (h : beyond-range a ≡ false) (k : beyond-range b ≡ false) where
+  pub join-kept : unjudged-binary rounding Join a b ≡ value (thousandths.join a b)
+  unfolding unjudged-binary stop operations.binary
+  join-kept = rw (join-rounded rounding a b) (in-range-kept _ (join-range a b (rw (h, k) refl)))
+
+  pub meet-kept : unjudged-binary rounding Meet a b ≡ value (thousandths.meet a b)
+  unfolding unjudged-binary stop operations.binary
+  meet-kept = rw (meet-rounded rounding a b) (in-range-kept _ (meet-range a b (rw (h, k) refl)))
