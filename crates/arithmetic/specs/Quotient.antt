@@ -1,40 +1,35 @@
--- Quotients end by end, with whole numbers alone: how code computes them. Assumes nothing.
-use mathlib.Core.Path.{_≡_}
-use mathlib.Core.Bool.{Bool, true, not}
-use Prim.Native.Nat.{_≤_}
-use lib.IntN.{ℤ, pos, natAbs, _*ℤ_}
-use lib.Signed.{ltZ}
-use Rattle.directed.specs.declared.Interval.{Interval}
+-- Quotients of two ends by the kinds of what is divided and of the divisor: how code picks them.
+use mathlib.Core.Bool.{Bool}
+use Prim.Native.Nat.{zero, suc}
+use native.Mathlib.Omega.{arith}
+use lib.IntN.{ℤ, pos, negsuc, negℤ}
+use Rattle.directed.specs.declared.Kind.{Kind}
 use Rattle.directed.specs.declared.Rounding.{Rounding}
-use Rattle.directed.specs.Answer.{Outcome, refusal, in-range}
+use Rattle.directed.specs.Answer.{Outcome, unless, divisor, in-range}
 use Rattle.directed.specs.Choice.{if_then_else_}
-use Rattle.arithmetic.specs.Ends.{quotients}
+use Rattle.directed.specs.Exact.{Exact, ends}
+use Rattle.directed.specs.Fraction.{Fraction, 0ᶠ}
+use Rattle.directed.specs.Kind.{sort-of}
+use Rattle.directed.specs.Operations.{product, reciprocal}
+use Rattle.directed.specs.Thousandths.{Pair, dual, exact, round-down, round-up, rounded}
+use Rattle.arithmetic.specs.Selection.{chosen}
 
--- whether [l, u] holds zero
-unfoldable pub around-zero : ℤ → ℤ → Bool
-around-zero l u = if ltZ (pos 0) l then not (ltZ (pos 0) u) else (if ltZ l (pos 0) then not (ltZ u (pos 0)) else true)
+-- n thousandths over d thousandths
+unfoldable pub ratio : ℤ → ℤ → Fraction
+ratio n (pos zero) = 0ᶠ
+ratio n (pos (suc d)) = record { num = n; den = suc d; above = omega arith }
+ratio n (negsuc d) = record { num = negℤ n; den = suc d; above = omega arith }
 
--- d goes over c's end on its own side, or over the far one where d is below 0
-unfoldable pub divisor : ℤ → ℤ → ℤ → ℤ
-divisor d own far = if ltZ d (pos 0) then far else own
+unfoldable pub nearest-ratio : Bool → ℤ → ℤ → ℤ
+nearest-ratio up n d = if up then round-up (ratio n d) else round-down (ratio n d)
 
-unfoldable pub over-ends : Rounding → ℤ → ℤ → ℤ → ℤ → Interval
-over-ends rounding dl du cl cu = quotients rounding (dl *ℤ pos 1000) (divisor dl cl cu) (du *ℤ pos 1000) (divisor du cu cl)
+abbrev pub ratios : Pair → Pair → Exact
+ratios n d = ends (ratio (n .lower) (d .lower)) (ratio (n .upper) (d .upper))
 
--- the ends of d change places where c is below 0
-unfoldable pub over-dual : Rounding → ℤ → ℤ → ℤ → ℤ → Interval
-over-dual rounding dl du cl cu = if ltZ (pos 0) cl then over-ends rounding dl du cl cu else over-ends rounding du dl cl cu
+-- n of kind k over c of sign +: 1/c₊ and 1/c₋ are the ends of a factor of sign +
+abbrev pub by-free : Kind → Pair → Pair → Exact
+by-free k n c = ratios n (chosen k (dual c))
 
--- 5 where c holds zero
-unfoldable pub divided : Rounding → ℤ → ℤ → ℤ → ℤ → Outcome
-divided rounding dl du cl cu = if around-zero cl cu then refusal 5 else in-range (over-dual rounding dl du cl cu)
-
--- what that asks: differences of two ends, and ends of c other than 0
-abbrev pub Some : ℤ → Type 0
-Some z = z ≡ pos 0 → ⊥
-
-pub record Asks (dl du cl cu : ℤ) : Type 0 where
-  pub low : natAbs dl ≤ 4294967296
-  pub high : natAbs du ≤ 4294967296
-  pub cl-some : Some cl
-  pub cu-some : Some cu
+-- 01's quotient by the kinds that are said of n and of c
+unfoldable pub divided : Rounding → Kind → Pair → Kind → Pair → Outcome Pair
+divided rounding k n by c = unless (divisor (sort-of by)) (in-range (rounded rounding (product (sort-of k) (sort-of by) (exact n) (reciprocal (exact c)))))

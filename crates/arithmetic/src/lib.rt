@@ -1,196 +1,91 @@
 // Directed interval arithmetic in thousandths: each operation exact, then rounded once.
-// The functions named round_.. judge their result alone; the others judge what they are given first.
+// The functions named unjudged_.. judge their result alone; the others judge what they are given first.
 ghost use mathlib.Core.Path.{_≡_};
-ghost use mathlib.Core.Bool.{_||_};
-ghost use Rattle.directed.specs.Thousandths as thousandths;
-ghost use Rattle.directed.specs.Thousandths.{beyond-range};
+ghost use Rattle.directed.specs.Lift.{pair-of};
 ghost use Rattle.directed.specs.Answer as answer;
-ghost use Rattle.directed.specs.Answer.{outcome, in-range};
+ghost use Rattle.directed.specs.Answer.{outcome, built};
 ghost use Rattle.directed.specs.Equation as meaning;
 use directed::Answer;
+use directed::Binary;
 use directed::Cause;
 use directed::Interval;
 use directed::Rounding;
+use directed::Unary;
 
 mod division;
 mod ends;
+mod operations;
 mod products;
 mod quotients;
+mod selection;
 
-fn either_beyond(a: Interval, b: Interval) -> bool
-    ensures { λ r. ⌜ r ≡ (beyond-range a || beyond-range b) ⌝ }
+// ---- 5 where a divisor holds zero, 4 where an end of the result is beyond the range
+
+// 01's opposite is the additive inverse of the directed sum.
+pub fn unjudged_unary(op: Unary, a: Interval) -> Answer
+    ensures { λ r. ⌜ outcome r ≡ built (answer.unjudged-unary op (pair-of a)) ⌝ }
 {
-    a.is_beyond_range() || b.is_beyond_range()
+    match op {
+        Unary::Negation => operations::negated(a.upper, a.lower),
+        Unary::Opposite => operations::negated(a.lower, a.upper),
+        Unary::Dual => operations::dual(a),
+    }
 }
 
-// ---- 4 where an end of the result is beyond the range, 5 where a divisor holds zero; what is given is not judged
-
-pub fn round_negation(a: Interval) -> Answer
-    ensures { λ r. ⌜ outcome r ≡ in-range (thousandths.negation a) ⌝ }
+pub fn unjudged_binary(op: Binary, a: Interval, b: Interval, rounding: Rounding) -> Answer
+    ensures { λ r. ⌜ outcome r ≡ built (answer.unjudged-binary rounding op (pair-of a) (pair-of b)) ⌝ }
 {
-    ends::in_range(ends::negation(a.upper), ends::negation(a.lower))
+    match op {
+        Binary::Sum => operations::sum(a, b),
+        Binary::Difference => operations::difference(a, b),
+        Binary::Product => operations::product(a, b, rounding),
+        Binary::Quotient => operations::quotient(a, b, rounding),
+        Binary::Join => operations::lattice(false, a, b),
+        Binary::Meet => operations::lattice(true, a, b),
+    }
 }
 
-// 01's opposite, the additive inverse of the directed sum.
-pub fn round_opposite(a: Interval) -> Answer
-    ensures { λ r. ⌜ outcome r ≡ in-range (thousandths.opposite a) ⌝ }
+// The x of a + c × x = b.
+pub fn unjudged_equation(a: Interval, c: Interval, b: Interval, rounding: Rounding) -> Answer
+    ensures { λ r. ⌜ outcome r ≡ built (meaning.unjudged-equation rounding (pair-of a) (pair-of c) (pair-of b)) ⌝ }
 {
-    ends::in_range(ends::negation(a.lower), ends::negation(a.upper))
-}
-
-pub fn round_dual(a: Interval) -> Answer
-    ensures { λ r. ⌜ outcome r ≡ in-range (thousandths.dual a) ⌝ }
-{
-    ends::in_range(ends::wide(a.upper), ends::wide(a.lower))
-}
-
-pub fn round_join(a: Interval, b: Interval) -> Answer
-    ensures { λ r. ⌜ outcome r ≡ in-range (thousandths.join a b) ⌝ }
-{
-    ends::in_range(
-        ends::smaller(a.lower, b.lower),
-        ends::larger(a.upper, b.upper),
-    )
-}
-
-pub fn round_meet(a: Interval, b: Interval) -> Answer
-    ensures { λ r. ⌜ outcome r ≡ in-range (thousandths.meet a b) ⌝ }
-{
-    ends::in_range(
-        ends::larger(a.lower, b.lower),
-        ends::smaller(a.upper, b.upper),
-    )
-}
-
-// Sums and differences are exact, so either rounding gives the same.
-pub fn round_sum(a: Interval, b: Interval, rounding: Rounding) -> Answer
-    ensures { λ r. ⌜ outcome r ≡ answer.rounded-sum rounding a b ⌝ }
-{
-    ends::in_range(ends::sum(a.lower, b.lower), ends::sum(a.upper, b.upper))
-}
-
-pub fn round_difference(a: Interval, b: Interval, rounding: Rounding) -> Answer
-    ensures { λ r. ⌜ outcome r ≡ answer.rounded-difference rounding a b ⌝ }
-{
-    ends::in_range(
-        ends::difference(a.lower, b.upper),
-        ends::difference(a.upper, b.lower),
-    )
-}
-
-pub fn round_product(a: Interval, b: Interval, rounding: Rounding) -> Answer
-    ensures { λ r. ⌜ outcome r ≡ answer.rounded-product rounding a b ⌝ }
-{
-    let e = products::exact(a, b);
-    ends::rounded(rounding, e.lower, 1000, e.upper, 1000)
-}
-
-pub fn round_quotient(a: Interval, b: Interval, rounding: Rounding) -> Answer
-    ensures { λ r. ⌜ outcome r ≡ answer.rounded-quotient rounding a b ⌝ }
-{
-    quotients::divided(
-        rounding,
-        ends::wide(a.lower),
-        ends::wide(a.upper),
-        b.upper,
-        b.lower,
-    )
+    operations::solution(a, c, b, rounding)
 }
 
 // ---- 2 first, where an end that is given is beyond the range
 
-pub fn negation(a: Interval) -> Answer
-    ensures { λ r. ⌜ outcome r ≡ answer.negation a ⌝ }
+pub fn unary(op: Unary, a: Interval) -> Answer
+    ensures { λ r. ⌜ outcome r ≡ built (answer.unary op a) ⌝ }
 {
-    if a.is_beyond_range() {
+    if a.is_faulty() {
         return Answer::Refused(Cause::EndBeyondRange);
     }
-    round_negation(a)
+    unjudged_unary(op, a)
 }
 
-pub fn opposite(a: Interval) -> Answer
-    ensures { λ r. ⌜ outcome r ≡ answer.opposite a ⌝ }
+pub fn binary(op: Binary, a: Interval, b: Interval, rounding: Rounding) -> Answer
+    ensures { λ r. ⌜ outcome r ≡ built (answer.binary rounding op a b) ⌝ }
 {
-    if a.is_beyond_range() {
+    if a.is_faulty() {
         return Answer::Refused(Cause::EndBeyondRange);
     }
-    round_opposite(a)
-}
-
-pub fn dual(a: Interval) -> Answer
-    ensures { λ r. ⌜ outcome r ≡ answer.dual a ⌝ }
-{
-    if a.is_beyond_range() {
+    if b.is_faulty() {
         return Answer::Refused(Cause::EndBeyondRange);
     }
-    round_dual(a)
+    unjudged_binary(op, a, b, rounding)
 }
 
-pub fn join(a: Interval, b: Interval) -> Answer
-    ensures { λ r. ⌜ outcome r ≡ answer.join a b ⌝ }
-{
-    if either_beyond(a, b) {
-        return Answer::Refused(Cause::EndBeyondRange);
-    }
-    round_join(a, b)
-}
-
-pub fn meet(a: Interval, b: Interval) -> Answer
-    ensures { λ r. ⌜ outcome r ≡ answer.meet a b ⌝ }
-{
-    if either_beyond(a, b) {
-        return Answer::Refused(Cause::EndBeyondRange);
-    }
-    round_meet(a, b)
-}
-
-pub fn sum(a: Interval, b: Interval, rounding: Rounding) -> Answer
-    ensures { λ r. ⌜ outcome r ≡ answer.sum rounding a b ⌝ }
-{
-    if either_beyond(a, b) {
-        return Answer::Refused(Cause::EndBeyondRange);
-    }
-    round_sum(a, b, rounding)
-}
-
-pub fn difference(a: Interval, b: Interval, rounding: Rounding) -> Answer
-    ensures { λ r. ⌜ outcome r ≡ answer.difference rounding a b ⌝ }
-{
-    if either_beyond(a, b) {
-        return Answer::Refused(Cause::EndBeyondRange);
-    }
-    round_difference(a, b, rounding)
-}
-
-pub fn product(a: Interval, b: Interval, rounding: Rounding) -> Answer
-    ensures { λ r. ⌜ outcome r ≡ answer.product rounding a b ⌝ }
-{
-    if either_beyond(a, b) {
-        return Answer::Refused(Cause::EndBeyondRange);
-    }
-    round_product(a, b, rounding)
-}
-
-pub fn quotient(a: Interval, b: Interval, rounding: Rounding) -> Answer
-    ensures { λ r. ⌜ outcome r ≡ answer.quotient rounding a b ⌝ }
-{
-    if either_beyond(a, b) {
-        return Answer::Refused(Cause::EndBeyondRange);
-    }
-    round_quotient(a, b, rounding)
-}
-
-// The x of a + c × x = b: (b − dual a) / dual c, whose inner difference no range holds.
 pub fn equation(a: Interval, c: Interval, b: Interval, rounding: Rounding) -> Answer
-    ensures { λ r. ⌜ outcome r ≡ meaning.equation rounding a c b ⌝ }
+    ensures { λ r. ⌜ outcome r ≡ built (meaning.equation rounding a c b) ⌝ }
 {
-    if a.is_beyond_range() {
+    if a.is_faulty() {
         return Answer::Refused(Cause::EndBeyondRange);
     }
-    if either_beyond(c, b) {
+    if c.is_faulty() {
         return Answer::Refused(Cause::EndBeyondRange);
     }
-    let dl = ends::difference(b.lower, a.lower);
-    let du = ends::difference(b.upper, a.upper);
-    quotients::divided(rounding, dl, du, c.lower, c.upper)
+    if b.is_faulty() {
+        return Answer::Refused(Cause::EndBeyondRange);
+    }
+    unjudged_equation(a, c, b, rounding)
 }

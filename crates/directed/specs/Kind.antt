@@ -1,4 +1,4 @@
--- What a product asks of a pair, as the code has it: 01's sorts by name. Assumes nothing.
+-- What a product asks of a pair, as the code has it: 01's sorts by name.
 use Rattle.directed.specs.declared.Kind.{Kind}
 use Rattle.directed.specs.declared.Kind.the-variants.{Positive, Negative, ProperZero, ImproperZero}
 use Rattle.directed.specs.Exact.{⁺, ⁻, Sort, zero-free, holds-zero, sort}

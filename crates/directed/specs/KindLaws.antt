@@ -1,4 +1,4 @@
--- The kind of two ends by tests of them. Assumes nothing.
+-- The kind of two ends by tests of them.
 use mathlib.Core.Bool.{cond, _&&_}
 use mathlib.Core.Path.{_≡_, refl}
 use Prim.Native.Nat.{zero, suc}
@@ -12,15 +12,19 @@ use Rattle.directed.specs.declared.Kind.the-variants.{Positive, Negative
 use Rattle.directed.specs.Choice.{if_then_else_}
 use Rattle.directed.specs.Fraction.{is-positive, is-negative}
 use Rattle.directed.specs.Exact.{⁺, ⁻, Sort, zero-free, holds-zero, sort, direction}
-use Rattle.directed.specs.Thousandths.{pair, exact}
+use Rattle.directed.specs.Thousandths.{Pair, pair, exact}
 use Rattle.directed.specs.Kind.{sort-of, named, kind-of}
 
 -- ---- sorts and kinds name each other
-pub sort-named : (k : Sort) → sort-of (named k) ≡ k
+sort-named : (k : Sort) → sort-of (named k) ≡ k
 sort-named (zero-free ⁺) = refl
 sort-named (zero-free ⁻) = refl
 sort-named (holds-zero ⁺) = refl
 sort-named (holds-zero ⁻) = refl
+
+pub sort-kind : (p : Pair) → sort-of (kind-of p) ≡ sort (exact p)
+unfolding kind-of
+sort-kind p = sort-named (sort (exact p))
 
 -- ---- by tests, in the code's order
 unfoldable pub by-tests : ℤ → ℤ → Kind

@@ -1,5 +1,5 @@
 -- The interval in memory and the pair of thousandths that it stands for: the one place where definitions and laws, which speak of pairs, meet
--- the struct. Assumes nothing.
+-- the struct.
 use mathlib.Core.Bool.{Bool}
 use Rattle.directed.specs.declared.Interval.{Interval}
 use Rattle.directed.specs.Thousandths.{Pair, pair, beyond-range}

@@ -1,0 +1,22 @@
+-- The exact product in millionths, rounded once.
+use borrow.Author.Needs.{needs}
+use mathlib.Core.Path.{_≡_, ap, _∙_}
+use Rattle.directed.specs.Answer.{built}
+use Rattle.arithmetic.specs.Operations.{product-is}
+use Rattle.arithmetic.proofs.Shared.{Same64}
+use Rattle.arithmetic.proofs.operations.product.Statement.{statement}
+use Rattle.arithmetic.proofs.operations.product.Tie as tie
+
+back : (c : tie.After-exact) → Same64 (c .exact .result .lower) × Same64 (c .exact .result .upper)
+back c = (search needs, search needs)
+
+rounded-requires : tie.Need-rounded-requires
+rounded-requires c κs = let e = c .before .before in rw (back e .0, back e .1) (e .exact .ensures .1)
+
+returns : tie.Need-returns
+returns c =
+    let e = c .before .before .before in
+    rw (back e .0, back e .1, e .exact .ensures .0) at (c .rounded .ensures) ∙ ap built (product-is _ _ _)
+
+pub product-spec : {M : Type 1} → statement M
+product-spec = tie.close (tie.spec (λ c κs. search needs) rounded-requires returns)

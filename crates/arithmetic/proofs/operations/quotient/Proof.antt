@@ -1,0 +1,26 @@
+-- The ends and the kinds of both.
+use borrow.Author.Needs.{needs}
+use mathlib.Core.Path.{_≡_, _∙_, ap}
+use mir.Syntax.{w64}
+use Rattle.integers.specs.Locals.{got}
+use Rattle.directed.specs.Answer.{built}
+use Rattle.arithmetic.specs.QuotientLaws.{quotient-divided}
+use Rattle.arithmetic.proofs.Shared.{Same}
+use Rattle.arithmetic.proofs.operations.quotient.Statement.{statement}
+use Rattle.arithmetic.proofs.operations.quotient.Tie as tie
+
+back : (s : tie.Start) → Same (s .args .a .lower) × Same (s .args .a .upper) × Same (s .args .b .lower) × Same (s .args .b .upper)
+back s = (search needs, search needs, search needs, search needs)
+
+returns : tie.Need-returns
+returns c =
+    let k = c .before .before .before in
+    let j = k .before in
+    let u = j .before in
+    let l = u .before .before in
+    let s = l .before .before in
+    let f = back s in
+    rw (j .kind .ensures, k .kind2 .ensures, got w64 (l .wide .ok) (l .wide .ensures .0 ∙ f .0), got w64 (u .wide2 .ok) (u .wide2 .ensures .0 ∙ f .1), f .2, f .3) at (c .divided .ensures) ∙ ap built (quotient-divided _ _ _)
+
+pub quotient-spec : {M : Type 1} → statement M
+quotient-spec = tie.close (tie.spec (λ c κs. search needs) (λ c κs. search needs) (λ c κs. search needs) (λ c κs. search needs) (λ c κs. search needs) returns)

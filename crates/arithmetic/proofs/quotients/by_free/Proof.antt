@@ -1,0 +1,24 @@
+-- Over the ends that the kind picks.
+use borrow.Author.Needs.{needs}
+use mathlib.Core.Path.{_≡_, ap, _∙_}
+use Rattle.integers.specs.Locals.{plain}
+use Rattle.directed.specs.Answer.{built, in-range}
+use Rattle.directed.specs.Thousandths.{Pair, pair, rounded}
+use Rattle.arithmetic.specs.Quotient.{ratios}
+use Rattle.arithmetic.proofs.Shared.{Same}
+use Rattle.arithmetic.proofs.quotients.by_free.Statement.{statement}
+use Rattle.arithmetic.proofs.quotients.by_free.Tie as tie
+
+back : (c : tie.After-chosen) → Same (c .chosen .result .lower) × Same (c .chosen .result .upper)
+back c = (search needs, search needs)
+
+returns : tie.Need-returns
+returns c =
+    let k = c .before .before .before in
+    let s = k .before in
+    let f = back k in
+    let h = rw (plain (s .fits .cu), plain (s .fits .cl)) at (k .chosen .ensures) in
+    rw (plain (s .fits .nl), plain (s .fits .nu), f .0, f .1) at (c .ratios .ensures) ∙ ap (λ (d : Pair). built (in-range (rounded (s .args .rounding) (ratios (pair (s .args .nl) (s .args .nu)) d)))) h
+
+pub by-free-spec : {M : Type 1} → statement M
+by-free-spec = tie.close (tie.spec (λ c κs. search needs) (λ c κs. search needs) returns)

@@ -1,0 +1,26 @@
+-- Both ends, the upper one rounded in the other direction.
+use borrow.Author.Needs.{needs}
+use mathlib.Core.Path.{_≡_, ap, _∙_}
+use mir.Syntax.{w64}
+use Rattle.integers.specs.Locals.{plain, got}
+use Rattle.directed.specs.Answer.{built, in-range}
+use Rattle.directed.specs.Thousandths.{Pair, pair}
+use Rattle.arithmetic.specs.QuotientLaws.{ratios-rounded}
+use Rattle.arithmetic.proofs.Shared.{landed}
+use Rattle.arithmetic.proofs.quotients.ratios.Statement.{statement}
+use Rattle.arithmetic.proofs.quotients.ratios.Tie as tie
+
+returns : tie.Need-returns
+returns c =
+    let u = c .before in
+    let l = u .before in
+    let w = l .before in
+    let f = w .before .fits in
+    let s = w .before .args in
+    landed (c .in-range .ensures)
+    (got w64 (l .ratio .ok) (rw (w .lower-up .ensures, plain (f .nl), plain (f .dl)) at (l .ratio .ensures)))
+    (got w64 (u .ratio2 .ok) (rw (w .lower-up .ensures, plain (f .nu), plain (f .du)) at (u .ratio2 .ensures)))
+    ∙ ap (λ (p : Pair). built (in-range p)) (ratios-rounded (s .rounding) (pair (s .nl) (s .nu)) (pair (s .dl) (s .du)))
+
+pub ratios-spec : {M : Type 1} → statement M
+ratios-spec = tie.close (tie.spec (λ c κs. search needs) (λ c κs. search needs) (λ c κs. search needs) (λ c κs. search needs) returns)

@@ -1,0 +1,102 @@
+// The operations one by one, and the equation; what is given is not judged.
+ghost use mathlib.Core.Path.{_≡_};
+ghost use mathlib.Core.Bool.{not};
+ghost use lib.IntN.{negℤ, _+ℤ_, _-ℤ_};
+ghost use Rattle.directed.specs.Thousandths.{pair, dual};
+ghost use Rattle.directed.specs.declared.Binary.the-variants as op;
+ghost use Rattle.directed.specs.Lift.{pair-of};
+ghost use Rattle.directed.specs.Answer.{outcome, built, in-range, unjudged-binary};
+ghost use Rattle.directed.specs.Equation as meaning;
+ghost use Rattle.arithmetic.specs.Ends.{extreme};
+ghost use Rattle.arithmetic.specs.Operations.{lattice};
+ghost use Rattle.arithmetic.specs.ProductLaws.{thousandths};
+ghost use Rattle.arithmetic.specs.Product.{ends, Sized};
+use crate::division;
+use crate::ends;
+use crate::products;
+use crate::quotients;
+use directed::Answer;
+use directed::Interval;
+use directed::Kind;
+use directed::Rounding;
+
+pub fn negated(lower: i32, upper: i32) -> Answer
+    ensures { λ r. ⌜ outcome r ≡ built (in-range (pair (negℤ lower) (negℤ upper))) ⌝ }
+{
+    ends::in_range(ends::negation(lower), ends::negation(upper))
+}
+
+pub fn dual(a: Interval) -> Answer
+    ensures { λ r. ⌜ outcome r ≡ built (in-range (dual (pair-of a))) ⌝ }
+{
+    ends::in_range(ends::wide(a.upper), ends::wide(a.lower))
+}
+
+// Sums and differences are exact.
+pub fn sum(a: Interval, b: Interval) -> Answer
+    ensures { λ r. ⌜ outcome r ≡ built (in-range (pair (a .lower +ℤ b .lower) (a .upper +ℤ b .upper))) ⌝ }
+{
+    ends::in_range(ends::sum(a.lower, b.lower), ends::sum(a.upper, b.upper))
+}
+
+pub fn difference(a: Interval, b: Interval) -> Answer
+    ensures { λ r. ⌜ outcome r ≡ built (in-range (pair (a .lower -ℤ b .upper) (a .upper -ℤ b .lower))) ⌝ }
+{
+    ends::in_range(
+        ends::difference(a.lower, b.upper),
+        ends::difference(a.upper, b.lower),
+    )
+}
+
+fn extreme_end(larger: bool, x: i32, y: i32) -> i64
+    ensures { λ r. ⌜ r ≡ extreme larger x y ⌝ }
+{
+    ends::extreme(larger, ends::wide(x), ends::wide(y))
+}
+
+// The meet, or the join.
+pub fn lattice(meets: bool, a: Interval, b: Interval) -> Answer
+    ensures { λ r. ⌜ outcome r ≡ built (in-range (lattice meets (pair-of a) (pair-of b))) ⌝ }
+{
+    ends::in_range(
+        extreme_end(meets, a.lower, b.lower),
+        extreme_end(!meets, a.upper, b.upper),
+    )
+}
+
+// Ends in millionths, each over 1000, rounded once.
+fn rounded(rounding: Rounding, lower: i64, upper: i64) -> Answer
+    requires { ⌜ Sized (ends lower upper) ⌝ }
+    ensures { λ r. ⌜ outcome r ≡ built (in-range (thousandths rounding (ends lower upper))) ⌝ }
+{
+    let up = ends::lower_up(rounding);
+    ends::in_range(
+        division::nearest_div(up, lower, 1000),
+        division::nearest_div(!up, upper, 1000),
+    )
+}
+
+pub fn product(a: Interval, b: Interval, rounding: Rounding) -> Answer
+    ensures { λ r. ⌜ outcome r ≡ built (unjudged-binary rounding op.Product (pair-of a) (pair-of b)) ⌝ }
+{
+    let e = products::exact(a, b);
+    rounded(rounding, e.lower, e.upper)
+}
+
+pub fn quotient(a: Interval, b: Interval, rounding: Rounding) -> Answer
+    ensures { λ r. ⌜ outcome r ≡ built (unjudged-binary rounding op.Quotient (pair-of a) (pair-of b)) ⌝ }
+{
+    let lower = ends::wide(a.lower);
+    let upper = ends::wide(a.upper);
+    quotients::divided(rounding, a.kind(), lower, upper, b.kind(), b.lower, b.upper)
+}
+
+// (b − dual a) / dual c; c's dual, if zero-free, has the kind of c. No range holds the difference.
+pub fn solution(a: Interval, c: Interval, b: Interval, rounding: Rounding) -> Answer
+    ensures { λ r. ⌜ outcome r ≡ built (meaning.unjudged-equation rounding (pair-of a) (pair-of c) (pair-of b)) ⌝ }
+{
+    let lower = ends::difference(b.lower, a.lower);
+    let upper = ends::difference(b.upper, a.upper);
+    let kind = Kind::from_ends(lower, upper);
+    quotients::divided(rounding, kind, lower, upper, c.kind(), c.upper, c.lower)
+}
