@@ -1,149 +1,313 @@
 #!/usr/bin/env python3
-"""An independent reading of document 01's lines, in exact fractions: standard input to standard output.
+"""Document 01 read into Python: exact fractions, no code of the library's. Everything that is expected of a program comes from here.
 
-It shares nothing with the program: it was written from the paper, and `tests/cases` and `tests/slip` compare the program with it.
+A pair is a tuple of two ends. What is given and what is answered is in whole thousandths; in between ends are `Fraction`s of a unit.
+A function returns its value or raises `Refusal`. Run as a program, it answers the lines of standard input as the slip does.
 """
+import contextlib
+import math
 import re
 import sys
 from fractions import Fraction
 
 LEAST, GREATEST = -2_000_000_000, 2_000_000_000
-# "An end is `-` if below zero, a whole part of 1 to 7 digits with no needless leading zero, `.`, and three digits."
-END = rb'(-?)(0|[1-9][0-9]{0,6})\.([0-9]{3})'
-PAIR = re.compile(rb'\[' + END + rb',' + END + rb'\]', re.DOTALL)
+VALUES, STEPS = 16, 64  # of a list
+LINE_BYTES, LINES = 96, 999_999
+OUTWARD, INWARD = 'O', 'I'
+OTHER = {OUTWARD: INWARD, INWARD: OUTWARD}
 
 
 class Refusal(Exception):
-    def __init__(self, number):
-        self.number = number
+    """A number of the table of causes; in a list also the step, or the count of steps."""
+
+    def __init__(self, number, step=None):
+        super().__init__(number, step)
+        self.number, self.step = number, step
 
 
-def end(sign, whole, part):
-    value = int(whole) * 1000 + int(part)
-    if sign and value == 0:  # "`-0.000` is not in this form."
-        raise Refusal(1)
-    return -value if sign else value
+def refuse(number, cause):
+    if cause:
+        raise Refusal(number)
 
 
-def read(text):
-    m = PAIR.fullmatch(text)
-    if not m:
-        raise Refusal(1)
-    g = m.groups()
-    pair = (end(*g[:3]), end(*g[3:]))
-    if any(e < LEAST or e > GREATEST for e in pair):
-        raise Refusal(2)
-    return tuple(Fraction(e, 1000) for e in pair)
+# ---- "The pair and its ends"
+
+def proper(a):
+    return a[0] <= a[1]
 
 
 def sign(a):
-    """+1 or -1 for a zero-free pair, 0 for one that holds zero."""
-    if a[0] > 0 and a[1] > 0:
-        return 1
-    if a[0] < 0 and a[1] < 0:
-        return -1
-    return 0
+    """+1 or -1 of a zero-free pair; 0 of one that holds zero."""
+    return 1 if a[0] > 0 and a[1] > 0 else -1 if a[0] < 0 and a[1] < 0 else 0
 
 
-def kind(a):
+def direction(a):
     """t(a): + if proper, - if improper."""
-    return 1 if a[0] <= a[1] else -1
+    return 1 if proper(a) else -1
 
 
-def at(a, s):
-    """The end of a with index s."""
-    return a[1] if s > 0 else a[0]
+def at(a, index):
+    """The end of a with this index."""
+    return a[1] if index > 0 else a[0]
 
 
-def times(a, b):
-    s, r = sign(a), sign(b)
-    if s and r:
-        return (at(a, -r) * at(b, -s), at(a, r) * at(b, s))
-    if s:
-        z = at(a, s * kind(b))
-        return (z * at(b, -s), z * at(b, s))
-    if r:
-        return times(b, a)
-    t, u = kind(a), kind(b)
-    if t != u:
-        return (Fraction(0), Fraction(0))
-    low = min(a[0] * b[1], a[1] * b[0])
-    high = max(a[0] * b[0], a[1] * b[1])
-    return (low, high) if t > 0 else (high, low)
+def beyond(a):
+    return any(not LEAST <= e <= GREATEST for e in a)
 
 
-def over(a, b):
-    if sign(b) == 0:
-        raise Refusal(5)
-    return times(a, (1 / b[1], 1 / b[0]))
+def units(a):
+    return tuple(Fraction(e, 1000) for e in a)
+
+
+def rounded(way, a):
+    low, high = (1000 * e for e in a)
+    return (math.floor(low), math.ceil(high)) if way == OUTWARD else (math.ceil(low), math.floor(high))
+
+
+# ---- "The operations", exact
+
+def negation(a):
+    return (-a[1], -a[0])
+
+
+def opposite(a):
+    return (-a[0], -a[1])
 
 
 def dual(a):
     return (a[1], a[0])
 
 
-def minus(a, b):
+def join(a, b):
+    return (min(a[0], b[0]), max(a[1], b[1]))
+
+
+def meet(a, b):
+    return (max(a[0], b[0]), min(a[1], b[1]))
+
+
+def total(a, b):
+    return (a[0] + b[0], a[1] + b[1])
+
+
+def difference(a, b):
     return (a[0] - b[1], a[1] - b[0])
 
 
+def product(a, b):
+    s, r = sign(a), sign(b)
+    if s and r:
+        return (at(a, -r) * at(b, -s), at(a, r) * at(b, s))
+    if s:
+        factor = at(a, s * direction(b))
+        return (factor * at(b, -s), factor * at(b, s))
+    if r:
+        return product(b, a)
+    low, high = min(a[0] * b[1], a[1] * b[0]), max(a[0] * b[0], a[1] * b[1])
+    if proper(a) != proper(b):
+        return (Fraction(0), Fraction(0))
+    return (low, high) if proper(a) else (high, low)
+
+
+def quotient(a, b):
+    refuse(5, not sign(b))
+    return product(a, (1 / b[1], 1 / b[0]))
+
+
 def equation(a, c, b):
-    if sign(c) == 0:
-        raise Refusal(5)
-    return over(minus(b, dual(a)), dual(c))
+    refuse(5, not sign(c))
+    return quotient(difference(b, dual(a)), dual(c))
 
 
+# By name: how many pairs are taken, and the exact operation.
 OPERATIONS = {
-    b'A': (2, lambda a, b: (a[0] + b[0], a[1] + b[1])),
-    b'S': (2, minus),
-    b'M': (2, times),
-    b'D': (2, over),
-    b'E': (3, equation),
+    'negation': (1, negation), 'opposite': (1, opposite), 'dual': (1, dual),
+    'sum': (2, total), 'difference': (2, difference), 'product': (2, product), 'quotient': (2, quotient), 'join': (2, join), 'meet': (2, meet),
+    'equation': (3, equation),
 }
 
 
-def down(x):
-    return (x * 1000).__floor__()
+def unjudged(way, name, pairs):
+    """5, then 4: a value waiting in a list is not judged by 2 again."""
+    result = rounded(way, OPERATIONS[name][1](*map(units, pairs)))
+    refuse(4, beyond(result))
+    return result
 
 
-def up(x):
-    return (x * 1000).__ceil__()
+def operation(way, name, pairs):
+    refuse(2, any(map(beyond, pairs)))
+    return unjudged(way, name, pairs)
 
 
-def answer(line):
-    """The bytes behind the number and the space."""
+# ---- "Lists of steps"
+
+CONSTANT = 0
+CODES = {1: 'sum', 2: 'difference', 3: 'product', 4: 'negation', 5: 'opposite', 6: 'dual', 7: 'join', 8: 'meet'}
+TURNING = ('opposite', 'dual')
+
+
+def constant_at(data, place):
+    """8 bytes: l then u, 32-bit two's complement, low byte first."""
+    return tuple(int.from_bytes(data[k:k + 4], 'little', signed=True) for k in (place, place + 4))
+
+
+@contextlib.contextmanager
+def at_step(step):
     try:
-        if len(line) > 96:
-            raise Refusal(12)
-        fields = line.split(b' ')
-        if len(fields) < 2:
-            raise Refusal(12)
-        if fields[0] not in (b'O', b'I') or fields[1] not in OPERATIONS:
-            raise Refusal(6)
-        count, operation = OPERATIONS[fields[1]]
-        if len(fields) != 2 + count:
-            raise Refusal(12)
-        low, high = operation(*[read(f) for f in fields[2:]])
-        pair = (down(low), up(high)) if fields[0] == b'O' else (up(low), down(high))
-        if any(e < LEAST or e > GREATEST for e in pair):
-            raise Refusal(4)
-        return b'[' + b','.join(text(e) for e in pair) + b']'
-    except Refusal as r:
-        return b'R %d' % r.number
+        yield
+    except Refusal as refusal:
+        raise Refusal(refusal.number, step) from None
 
 
-def text(e):
-    return b'%s%d.%03d' % (b'-' if e < 0 else b'', abs(e) // 1000, abs(e) % 1000)
+def expression(data, values=VALUES, steps=STEPS):
+    """The steps of a list that leaves one value: each the name of its operation and the steps that it takes, or None and a constant."""
+    read, waiting, place = [], [], 0
+    while place < len(data):
+        with at_step(len(read)):
+            refuse(10, len(read) == steps)
+            code, place = data[place], place + 1
+            refuse(6, code != CONSTANT and code not in CODES)
+            if code == CONSTANT:
+                refuse(7, len(data) - place < 8)
+                name, taken, place = None, constant_at(data, place), place + 8
+                refuse(2, beyond(taken))
+            else:
+                name = CODES[code]
+                left = len(waiting) - OPERATIONS[name][0]
+                refuse(8, left < 0)
+                taken, waiting = waiting[left:], waiting[:left]
+            refuse(9, len(waiting) == values)
+            waiting.append(len(read))
+            read.append((name, taken))
+    with at_step(len(read)):
+        refuse(11, len(waiting) != 1)
+    return read
 
 
-def lines(data):
-    parts = data.split(b'\n')
-    if parts[-1] == b'':  # nothing behind the last byte 10, or no byte at all
-        parts.pop()
-    return parts[:999_999]
+def wanted(read, way):
+    """The way in which each step is wanted: from the last step back, turned below a dual or opposite step."""
+    ways = {len(read) - 1: way}
+    for step in reversed(range(len(read))):
+        name, taken = read[step]
+        if name:
+            for operand in taken:
+                ways[operand] = OTHER[ways[step]] if name in TURNING else ways[step]
+    return ways
+
+
+def evaluate(way, data, values=VALUES, steps=STEPS):
+    read = expression(data, values, steps)
+    ways, made = wanted(read, way), []
+    for step, (name, taken) in enumerate(read):
+        with at_step(step):
+            made.append(unjudged(ways[step], name, [made[k] for k in taken]) if name else taken)
+    return made[-1]
+
+
+# ---- "Text and lines"
+
+END = rb'(-?)(0|[1-9][0-9]{0,6})\.([0-9]{3})'
+TEXT = re.compile(rb'\[' + END + rb',' + END + rb'\]')
+
+
+def end_of(minus, whole, part):
+    size = 1000 * int(whole) + int(part)
+    refuse(1, minus and size == 0)
+    return -size if minus else size
+
+
+def read_text(text):
+    found = TEXT.fullmatch(text)
+    refuse(1, not found)
+    marks = found.groups()
+    pair = (end_of(*marks[:3]), end_of(*marks[3:]))
+    refuse(2, beyond(pair))
+    return pair
+
+
+def end_text(end):
+    return b'%s%d.%03d' % (b'-' if end < 0 else b'', abs(end) // 1000, abs(end) % 1000)
+
+
+def text_of(pair):
+    return b'[%s,%s]' % (end_text(pair[0]), end_text(pair[1]))
+
+
+def write_text(pair, room):
+    refuse(2, beyond(pair))
+    text = text_of(pair)
+    refuse(3, len(text) > room)
+    return text
+
+
+LETTERS = {b'A': 'sum', b'S': 'difference', b'M': 'product', b'D': 'quotient', b'E': 'equation'}
+
+
+def line_value(line):
+    refuse(12, len(line) > LINE_BYTES)
+    fields = line.split(b' ')
+    refuse(12, len(fields) < 2)
+    refuse(6, fields[0] not in (b'O', b'I'))
+    refuse(6, fields[1] not in LETTERS)
+    name = LETTERS[fields[1]]
+    refuse(12, len(fields) - 2 != OPERATIONS[name][0])
+    return operation(fields[0].decode(), name, [read_text(field) for field in fields[2:]])
+
+
+def lines_of(data):
+    lines = data.split(b'\n')
+    if lines[-1] == b'':  # nothing follows the last byte 10, or there is no byte at all
+        lines.pop()
+    return lines[:LINES]
+
+
+def told(value, show):
+    """A value as `show` writes it, or the refusal."""
+    try:
+        return show(value())
+    except Refusal as refusal:
+        return b'R %d' % refusal.number + (b'' if refusal.step is None else b' %d' % refusal.step)
 
 
 def output(data):
-    return b''.join(b'%d %s\n' % (n, answer(line)) for n, line in enumerate(lines(data), 1))
+    """What the slip prints."""
+    return b''.join(b'%d %s\n' % (n, told(lambda: line_value(line), text_of)) for n, line in enumerate(lines_of(data), 1))
+
+
+# ---- what crates/library_test prints: its questions are described there
+
+BUFFER = 28
+
+
+def ends(pair):
+    return b'%d %d' % pair
+
+
+def written(pair, room):
+    behind = b'.' * (BUFFER - room)
+    answer = told(lambda: write_text(pair, room), lambda text: b'%d %s' % (len(text), text.ljust(room, b'#') + behind))
+    return answer + b' ' + b'#' * room + behind if answer.startswith(b'R') else answer
+
+
+def answer(question):
+    word, _, rest = question.partition(b' ')
+    way = word.decode('latin-1')
+    if way in OTHER:
+        word, _, rest = rest.partition(b' ')
+    if word == b'read':
+        return told(lambda: read_text(rest), ends)
+    if word == b'list':
+        return told(lambda: evaluate(way, bytes.fromhex(rest.decode())), ends)
+    numbers = [int(n) for n in rest.split()]
+    if word == b'write':
+        return written(tuple(numbers[1:]), numbers[0])
+    pairs = list(zip(numbers[::2], numbers[1::2]))
+    return told(lambda: operation(way if way in OTHER else OUTWARD, word.decode(), pairs), ends)
+
+
+def answers(data):
+    """What library_test prints."""
+    return b''.join(line + (b'' if line[:1] in (b'', b'#') else b' = ' + answer(line)) + b'\n' for line in lines_of(data))
 
 
 if __name__ == '__main__':

@@ -1,0 +1,174 @@
+// Answers the questions of standard input: writes each line as it stands, then ` = ` and what the library's function says of it.
+// A question is a word and what the function is given, with `O` or `I` in front where there is a way. Ends and results are thousandths:
+//   dual 2000 5000              also negation, opposite
+//   O sum 1000 2000 -1 1        also difference, product, quotient, join, meet
+//   I equation 0 0 2000 4000 6000 8000
+//   read [1.000,2.000]
+//   write 27 1000 2000          into the front of 28 bytes, as many as said, each `#` at first; those behind are `.`
+//   O list 00 e8 03 00 00       the list's bytes
+// A refusal is `R` and its number, in a list also the step. A line that begins otherwise, as one with `#` does, is no question.
+mod numbers;
+
+use directed::Answer;
+use directed::Cause;
+use directed::Interval;
+use directed::Rounding;
+use libc::STDIN_FILENO;
+use libc::STDOUT_FILENO;
+use lists::ListAnswer;
+use text::Written;
+ghost use Prim.Native.Nat.{_+_, _≤_};
+ghost use lib.ListN.{length};
+
+fn show(bytes: &[u8]) {
+    io::write_all(STDOUT_FILENO, bytes);
+}
+
+fn show_interval(a: Interval) {
+    numbers::print(a.lower);
+    show(b" ");
+    numbers::print(a.upper);
+}
+
+fn show_refusal(cause: Cause) {
+    show(b"R ");
+    io::print_decimal(STDOUT_FILENO, cause.number() as u64);
+}
+
+fn show_answer(answer: Answer) {
+    match answer {
+        Answer::Value(a) => show_interval(a),
+        Answer::Refused(cause) => show_refusal(cause),
+    }
+}
+
+fn show_list_answer(answer: ListAnswer) {
+    match answer {
+        ListAnswer::Value(a) => show_interval(a),
+        ListAnswer::Refused { cause, at } => {
+            show_refusal(cause);
+            show(b" ");
+            io::print_decimal(STDOUT_FILENO, at as u64);
+        }
+    }
+}
+
+fn show_written(answer: Written) {
+    match answer {
+        Written::Length(n) => {
+            io::print_decimal(STDOUT_FILENO, n as u64);
+        }
+        Written::Refused(cause) => show_refusal(cause),
+    }
+}
+
+// The interval whose ends are in these two fields.
+fn interval(line: &[u8], lower: usize, upper: usize) -> Interval {
+    Interval::new(numbers::read(line, lower), numbers::read(line, upper))
+}
+
+fn unary(letter: u8, a: Interval) -> Answer {
+    match letter {
+        b'n' => arithmetic::negation(a),
+        b'o' => arithmetic::opposite(a),
+        _ => arithmetic::dual(a),
+    }
+}
+
+fn binary(letter: u8, a: Interval, b: Interval, rounding: Rounding) -> Answer {
+    match letter {
+        b's' => arithmetic::sum(a, b, rounding),
+        b'd' => arithmetic::difference(a, b, rounding),
+        b'p' => arithmetic::product(a, b, rounding),
+        b'q' => arithmetic::quotient(a, b, rounding),
+        b'j' => arithmetic::join(a, b),
+        _ => arithmetic::meet(a, b),
+    }
+}
+
+fn equation(line: &[u8], rounding: Rounding) -> Answer {
+    arithmetic::equation(
+        interval(line, 2, 3),
+        interval(line, 4, 5),
+        interval(line, 6, 7),
+        rounding,
+    )
+}
+
+fn list(line: &[u8], rounding: Rounding) {
+    let bytes = numbers::bytes_of(line);
+    let list = bytes.list;
+    let n = bytes.len;
+    show_list_answer(engine::evaluate(&list[..n], rounding));
+}
+
+fn write_to(a: Interval, room: usize, buffer: &mut [u8]) {
+    if buffer.len() < room {
+        return;
+    }
+    show_written(text::write(a, &mut buffer[..room]));
+    show(b" ");
+    show(buffer);
+}
+
+fn write(line: &[u8]) {
+    let mut buffer = [b'.'; 28];
+    let room = numbers::size(line, 1);
+    numbers::mark(room, &mut buffer);
+    write_to(interval(line, 2, 3), room, &mut buffer);
+}
+
+fn answer_rounded(line: &[u8], rounding: Rounding) {
+    if line.len() < 7 {
+        return;
+    }
+    match line[2] {
+        b'e' => show_answer(equation(line, rounding)),
+        b'l' => list(line, rounding),
+        letter => show_answer(binary(letter, interval(line, 2, 3), interval(line, 4, 5), rounding)),
+    }
+}
+
+fn answer(line: &[u8]) {
+    if line.len() < 5 {
+        return;
+    }
+    match line[0] {
+        b'O' => answer_rounded(line, Rounding::Outward),
+        b'I' => answer_rounded(line, Rounding::Inward),
+        b'r' => show_answer(text::read(&line[5..])),
+        b'w' => write(line),
+        letter => show_answer(unary(letter, interval(line, 1, 2))),
+    }
+}
+
+fn is_question(line: &[u8]) -> bool {
+    if line.len() < 5 {
+        return false;
+    }
+    line[0] != b'#'
+}
+
+fn show_line(line: &[u8]) {
+    show(line);
+    if is_question(line) {
+        show(b" = ");
+        answer(line);
+    }
+    show(b"\n");
+}
+
+fn show_all(text: &[u8]) {
+    let mut at = 0;
+    while at < text.len() {
+        let end = numbers::line_end(text, at);
+        show_line(&text[at..end]);
+        at = end + 1;
+    }
+}
+
+fn main() {
+    let mut text = io::large_buffer();
+    let n = io::read_full(STDIN_FILENO, &mut text);
+    show_all(&text[..n]);
+}

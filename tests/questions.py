@@ -1,0 +1,312 @@
+"""The questions of the two programs that are run and compared: QUESTIONS for crates/library_test, SLIP for crates/slip."""
+import struct
+
+import reference
+from reference import GREATEST
+
+# ---- library_test: operations
+
+OPERATIONS = '''\
+# Values to meet, those not starred
+O product 2000000 2000000 1000000 1000000
+O product 2000000 2000000 1000001 1000001
+O sum 2000000000 2000000000 1 1
+O quotient 1000 2000 1 1
+O quotient 1000 2000 0 1
+O quotient 1000 2000 1 0
+# The ends of the range, and one thousandth beyond them: 2, then 5, then 4.
+O sum -2000000000 2000000000 0 0
+O difference -2000000000 2000000000 2000000000 -2000000000
+O sum 2000000001 0 0 0
+O sum 0 0 0 -2000000001
+I product 2147483647 0 -2147483648 0
+O quotient 2000000001 0 0 1000
+O quotient 1000 1000 0 2000000001
+O equation 0 0 0 1000 2000000001 0
+O equation 0 0 0 1000 1000 1000
+O equation -2000000000 2000000000 1 1 2000000000 -2000000000
+O equation 0 0 1000 1000 -2000000000 2000000000
+O product 2000000000 2000000000 1000 1000
+O product 1414213 1414213 1414213 1414213
+# 4 is judged on the rounded end: an exact upper end between 2000000.000 and 2000000.001.
+O product 1000 1998001999 1000 1001
+I product 1000 1998001999 1000 1001
+O equation 0 -2000001 1001 1001 0 2000000000
+I equation 0 -2000001 1001 1001 0 2000000000
+O quotient 2000000000 2000000000 999 1000
+O quotient 1999999999 1999999999 1000 999
+# Down is towards minus infinity, also below zero; thousandths are the smallest.
+O product -1 -1 1 1
+I product -1 -1 1 1
+O product -1 1 -1 1
+I product -1 1 -1 1
+O product 1 -1 1 -1
+O quotient -1 1 3000 3000
+I quotient -1 1 3000 3000
+O quotient -1 1 -3000 -3000
+I quotient -1 1 -3000 -3000
+O quotient 1000 2000 1000 2000
+O quotient -7000 -7000 2000 2000
+# A pair with a zero end holds zero, proper or improper.
+O product 0 5000 2000 3000
+O product 5000 0 2000 3000
+O product 0 5000 3000 2000
+O product 5000 0 -2000 -3000
+O product 0 5000 5000 0
+O product -5000 0 0 -5000
+O product 0 0 -2000 7000
+O product -2000 -3000 4000 -1000
+O product -3000 -2000 -1000 4000
+# Negation, opposite, dual, join and meet never round and never leave the range.
+negation 2000000000 -2000000000
+negation -3000 4001
+opposite -3000 4001
+dual -3000 4001
+O join -3000 4000 5000 2000
+O meet -3000 4000 5000 2000
+negation -2147483648 0
+opposite 0 -2147483648
+dual 0 2000000001
+O join 2000000001 0 0 0
+O meet 0 0 0 -2000000001
+# Source document 000: Out[39], [59], [64], [68], [119] put right, [123], [124], the equations both ways; products of [137], [140], [141].
+O meet -12000 -3000 4000 7000
+O sum 2000 3000 5700 5700
+O difference 3100 -2000 -2000 3100
+O quotient -7300 -1000 -1000 -7300
+O equation 2000 3000 1000 1000 0 0
+I equation 2000 3000 1000 1000 0 0
+O equation 2000 3000 -1000 1000 0 0
+I equation 2000 3000 -1000 1000 0 0
+O equation 5100 3000 -7200 -11500 1000 2000
+I equation 5100 3000 -7200 -11500 1000 2000
+O product 4000 2000 0 1000
+O product 1000 -1000 0 1000
+O product 2000 4000 -750 750
+O product -1000 1000 375 -375
+O product -1000 1000 -750 750
+O product 2000 4000 375 -375
+O product 4000 2000 -1500 1500
+O product 1000 -1000 -1500 1500
+'''
+
+# ---- library_test: texts
+
+READ_IN_FORM = [
+    b'[1.002,1.003]', b'[-0.001,0.000]', b'[0.000,-0.001]', b'[0.999,1.000]', b'[20.600,6.500]', b'[-999999.999,1000000.000]',
+    b'[1999999.999,-1999999.999]', b'[-2000000.000,2000000.000]', b'[2000000.001,0.000]', b'[0.000,-2000000.001]',
+    b'[9999999.000,0.000]', b'[0.000,-9999999.999]',
+]
+READ_MALFORMED = [
+    b'[10000000.000,0.000]', b'[0.000,-10000000.000]', b'[9999999.000,x]', b'[-0.000,0.000]', b'[0.000,-0.000]', b'[00.500,0.000]',
+    b'[0.000,00.000]', b'[0000000.000,0.000]', b'[.500,0.000]', b'[0.000,.500]', b'[+1.000,0.000]', b'[--1.000,0.000]',
+    b'[1.00,0.000]', b'[1.0000,0.000]', b'[1.5,2]', b'[1,000.000]', b'', b'[', b'[]', b'[-,-]', b'[0.000,0.000', b'0.000,0.000]',
+    b'(0.000,0.000)', b'[0.000;0.000]', b'[0.000,0.000,0.000]', b'[0.000,0.000]]', b'[0.000,0.000] ', b' [0.000,0.000]',
+    b'[0.000, 0.000]', b'[0.000,0.000]\r', b'[0.000,0.000]\0', b'[0.000,0.00:]', b'[0.000,0.0/0]',
+    b'[0.000,12345678901234567890.000]',
+]
+
+# Where a digit more is wanted, from both sides; signs; the ends of the range and beyond.
+SIZES = [10**k for k in range(3, 10)] + [GREATEST]
+WRITTEN = [
+    *((n - 1, n) for n in [1, *SIZES]), *((-n, 1 - n) for n in [1, *SIZES]), (0, 0), (GREATEST, -GREATEST), (-334, -333), (-333, -334),
+    (GREATEST + 1, 0), (0, GREATEST + 1), (-GREATEST - 1, 0), (0, -GREATEST - 1), (2**31 - 1, 0), (-2**31, 0), (0, -2**31),
+]
+ROOMS = [(-GREATEST, -GREATEST), (0, 0), (-20600, 6500), (GREATEST + 1, 0)]
+
+
+def texts():
+    yield b'# Texts in form: read, then refused with 2'
+    yield from (b'read ' + text for text in READ_IN_FORM)
+    yield b'# Texts not in form'
+    yield from (b'read ' + text for text in READ_MALFORMED)
+    yield b'# Pairs written, and read back'
+    for pair in WRITTEN:
+        yield b'write 28 %d %d' % pair
+        if not reference.beyond(pair):
+            yield b'read ' + reference.text_of(pair)
+    for pair in ROOMS:
+        yield b'# A buffer of every length'
+        yield from (b'write %d %d %d' % (room, *pair) for room in range(reference.BUFFER + 1))
+
+
+# ---- library_test: lists
+
+def const(l, u=None):
+    return b'\0' + struct.pack('<ii', l, l if u is None else u)
+
+
+SUM, DIFF, MUL, NEG, OPP, DUAL, JOIN, MEET = (bytes([code]) for code in range(1, 9))
+ONE, SOME = const(1000), const(1001)
+WIDE = const(0, 1001) + const(0, 1998001999)  # their product's exact upper end lies between 2000000.000 and 2000000.001
+A, B, C, D = const(11000, 9000), const(4000, 2000), const(2300, 1500), const(-7500, -3100)  # of source document 000, In[74]
+MANY = const(GREATEST) * 2
+LISTS = [
+    ('the starred value: 1.001, 1.001, product, dual', 'OI', [
+        SOME + SOME + MUL + DUAL,
+    ]),
+    ('the product alone; below opposite, negation, two duals', 'OI', [
+        SOME + SOME + MUL,
+        SOME + SOME + MUL + OPP,
+        SOME + SOME + MUL + NEG,
+        SOME + SOME + MUL + DUAL + DUAL,
+    ]),
+    ('the way passes through sum, product, join and meet', 'OI', [
+        SOME + SOME + MUL + ONE + SUM + DUAL + SOME + SOME + MUL + MUL,
+        SOME + SOME + MUL + SOME + SOME + MUL + DUAL + JOIN,
+        SOME + SOME + MUL + OPP + SOME + SOME + MUL + DUAL + MEET + OPP,
+    ]),
+    ('each step once', 'OI', [
+        const(1000, 5000) + const(2000, 3000) + SUM,
+        const(1000, 5000) + const(2000, 3000) + DIFF,
+        const(-1000, 2000) + const(4000, -3000) + MUL,
+        const(1000, 2000) + const(4000, -3000) + MUL,
+        const(1000, 5000) + NEG,
+        const(1000, 5000) + OPP,
+        const(1000, 5000) + DUAL,
+        const(-12000, -3000) + const(4000, 7000) + JOIN,
+        const(-12000, -3000) + const(4000, 7000) + MEET,
+    ]),
+    ('source document 000, In[75]: a (b + c) - dual d, and In[76], its dual from the duals', 'OI', [
+        A + B + C + SUM + MUL + D + DUAL + DIFF,
+        A + DUAL + B + DUAL + C + DUAL + SUM + MUL + D + DIFF + DUAL,
+    ]),
+    ('sixteen waiting values pass; the next gives 9, first at step 16, last at step 63', 'O', [
+        ONE * 16 + SUM * 15,
+        ONE * 17,
+        ONE * 16 + NEG * 47 + ONE,
+    ]),
+    ('64 steps pass; the 65th gives 10', 'O', [
+        ONE + NEG * 63,
+        ONE + NEG * 64,
+    ]),
+    ('6 at the first and at the last step', 'O', [
+        b'\x09',
+        b'\xff',
+        ONE + NEG * 62 + b'\x09',
+    ]),
+    ('7 at the first and at the last step', 'O', [
+        b'\0',
+        ONE[:8],
+        ONE + NEG * 62 + ONE[:8],
+    ]),
+    ('2 at the first and at the last step; the ends of the range pass', 'O', [
+        const(GREATEST + 1, 0),
+        const(0, -GREATEST - 1),
+        const(-2**31, 2**31 - 1),
+        const(GREATEST, -GREATEST),
+        ONE + NEG * 62 + const(GREATEST + 1),
+    ]),
+    ('8 at the first and at the last step', 'O', [
+        NEG,
+        SUM,
+        ONE + SUM,
+        ONE + NEG * 62 + MEET,
+    ]),
+    ('11 with the count of steps read, 0 and 64', 'O', [
+        b'',
+        ONE + ONE,
+        ONE + ONE + NEG * 62,
+    ]),
+    ('4 at the first step that can give it, and at the last; the earliest of two', 'O', [
+        MANY + SUM,
+        const(GREATEST) + ONE + NEG * 61 + DIFF,
+        MANY + SUM + MANY + SUM + SUM,
+    ]),
+    ('4 after 11 and after 6', 'O', [
+        MANY + SUM + ONE,
+        MANY + SUM + b'\x09',
+    ]),
+    ('4 in the way wanted alone: outward only, then below a dual', 'OI', [
+        WIDE + MUL,
+        WIDE + MUL + DUAL,
+    ]),
+    ('two causes at one step: 10 before 6, 7, 2, 8 and 9', 'O', [
+        ONE + NEG * 63 + b'\x09',
+        ONE + NEG * 63 + b'\0',
+        ONE + NEG * 63 + const(GREATEST + 1),
+        ONE + NEG * 63 + SUM,
+        ONE * 16 + NEG * 48 + ONE,
+    ]),
+    ('7 before 2 and 9, 2 before 9', 'O', [
+        const(GREATEST + 1)[:8],
+        ONE * 16 + ONE[:8],
+        ONE * 16 + const(GREATEST + 1),
+    ]),
+    ('the earlier step before the earlier cause', 'O', [
+        NEG + b'\x09',
+    ]),
+    ('the low byte first', 'O', [
+        bytes([0, 1, 2, 3, 4, 250, 255, 255, 255]),
+    ]),
+]
+
+
+def lists():
+    for title, ways, group in LISTS:
+        yield b'# ' + title.encode()
+        yield from ((way + ' list ' + data.hex(' ')).encode() for data in group for way in ways)
+
+
+QUESTIONS = OPERATIONS.encode() + b''.join(line + b'\n' for part in (texts(), lists()) for line in part)
+
+# ---- slip
+
+P = b'[1.000,2.000]'
+PAD = b' '.join([b'O', b'E', b'[-1000000.001,-1000000.001]', b'[-1000000.001,-1000000.001]', b'[-1000000.001,-1000000.001]'])
+LINES = [
+    # document 01's four lines
+    b'O M [1.001,1.001] [1.001,1.001]',
+    b'I M [1.001,1.001] [1.001,1.001]',
+    b'O E [0.500,0.600] [2.000,4.000] [6.500,20.600]',
+    b'O D [1.000,2.000] [0.000,1.000]',
+    # each operation, both ways, proper and improper
+    b'O A [1.000,2.000] [0.500,-0.250]', b'I A [1.000,2.000] [0.500,-0.250]',
+    b'O S [2.000,5.000] [5.000,2.000]', b'I S [2.000,5.000] [2.000,5.000]',
+    b'O M [-1.000,2.000] [-3.000,4.000]', b'O M [2.000,-1.000] [4.000,-3.000]', b'O M [-1.000,2.000] [4.000,-3.000]',
+    b'O M [1.000,2.000] [4.000,-3.000]', b'O M [-0.001,-0.001] [0.001,0.001]', b'I M [-0.001,-0.001] [0.001,0.001]',
+    b'O D [-1.000,-1.000] [3.000,3.000]', b'I D [-1.000,-1.000] [3.000,3.000]', b'O D [1.000,2.000] [1.000,2.000]',
+    b'O E [0.000,0.000] [2.000,4.000] [6.000,8.000]', b'O E [0.000,0.000] [2.000,4.000] [-4.000,8.000]',
+    b'O E [5.100,3.000] [-7.200,-11.500] [1.000,2.000]', b'I E [5.100,3.000] [-7.200,-11.500] [1.000,2.000]',
+    # the longest texts, and the edge of the range
+    b'O A [-2000000.000,-2000000.000] [0.000,0.000]', b'O A [2000000.000,-2000000.000] [0.000,0.000]',
+    PAD,
+    # length (12): 96 bytes are allowed, 97 are not, whatever else is wrong
+    b'X' * 96, b'X' * 97, b'O M ' + b' ' * 92, b'O M ' + b' ' * 93, PAD + b' ' * (96 - len(PAD)), PAD + b' ' * (97 - len(PAD)),
+    b'O M ' + P + b' ' + P + b'0' * 66, b'O M ' + P + b' ' + P + b'0' * 65, b'\x00' * 300, b'O X ' + b'z' * 1000,
+    # fewer than two fields (12)
+    b'', b'O', b'X', b'OM', P,
+    # the first field (6), before the second and before the count
+    b' ', b'  ', b' M ' + P + b' ' + P, b'o M ' + P + b' ' + P, b'X M', b'OO M ' + P + b' ' + P, b'X X', b'[ M', b'O\x00 M ' + P + b' ' + P,
+    # the second field (6), before the count
+    b'O ', b'O  M ' + P + b' ' + P, b'O X', b'O m ' + P + b' ' + P, b'O MM ' + P + b' ' + P, b'I B ' + P, b'O M\t' + P + b' ' + P, b'O X a b c d',
+    # the count of the other fields (12), before the pairs
+    b'O M', b'O M ', b'O M ' + P, b'O M ' + P + b' ' + P + b' ', b'O M ' + P + b' ' + P + b' ' + P, b'O M a b c', b'O M x', b'O E', b'O E ' + P,
+    b'O E ' + P + b' ' + P, b'O E a b', b'O E a b c d', b'O E ' + P + b' ' + P + b' ' + P + b' ', b'I A ' + P + b'  ' + P, b'O S',
+    b'O D ' + P + b' ' + P + b' [0.000,0.000]', b'O A a',
+    # each pair from the left: 1, then 2
+    b'O M x ' + P, b'O M ' + P + b' x', b'O M  ' + P, b'O M ' + P + b' ', b'O M  ', b'O E  ' + P + b' ' + P, b'O E ' + P + b'  ' + P,
+    b'O E ' + P + b' ' + P + b' ', b'O E ' + P + b' ' + P + b' x', b'O E ' + P + b' x ' + P, b'O E x ' + P + b' ' + P,
+    b'O M [2000000.001,0.000] x', b'O M x [2000000.001,0.000]', b'O M ' + P + b' [0.000,-2000000.001]', b'O M [9999999.000,0.000] ' + P,
+    b'O M [10000000.000,0.000] ' + P, b'O M [9999999.000,x] ' + P, b'O E [2000000.001,0.000] x x', b'O E ' + P + b' [0.000,2000000.001] x',
+    b'O E ' + P + b' x [0.000,2000000.001]', b'O E ' + P + b' ' + P + b' [0.000,2000000.001]', b'O D [2000000.001,0.000] [0.000,1.000]',
+    # a text not in its form
+    *[b'O A ' + t + b' ' + P for t in (b'[-0.000,0.000]', b'[00.500,0.000]', b'[.500,0.000]', b'[+1.000,0.000]', b'[1.00,0.000]', b'[1.0000,0.000]',
+                                       b'[1,0.000]', b'1.000,2.000', b'[1.000;2.000]', b'[1.000,2.000', b'[1.000,2.000]]', b'[1.000,2.000]\r', b'[1.000,2.000]\x00',
+                                       b'[--1.000,2.000]', b'[1.000,]', b'[,]', b'[]', b'[', b']', b'(1.000,2.000)', b'[1.000,2.000,3.000]', b'[01.000,2.000]',
+                                       b'[1.0a0,2.000]', b'[1e3.000,2.000]', b'\xff', b'[-0.001,0.000]', b'[0.000,0.000]')],
+    # 5 before 4, and behind 1 and 2
+    b'O D [1.000,1.000] [0.000,0.000]', b'O D [1.000,1.000] [-1.000,1.000]', b'O D [1.000,1.000] [1.000,-1.000]', b'O D [2000000.000,2000000.000] [0.000,0.001]',
+    b'O D [1.000,1.000] [0.001,0.001]', b'O D [2000000.000,2000000.000] [0.001,0.001]', b'O E ' + P + b' [0.000,1.000] ' + P, b'O E ' + P + b' [1.000,0.000] x',
+    b'O E [0.000,0.000] [0.001,0.001] [2000000.000,2000000.000]', b'I E [0.000,0.000] [-1.000,-0.001] ' + P,
+    # 4 of each operation, on the rounded end
+    b'O A [2000000.000,0.000] [0.001,0.000]', b'I A [2000000.000,0.000] [0.001,0.000]', b'O S [-2000000.000,0.000] [0.000,0.001]',
+    b'O M [2000.000,2000.000] [1000.000,1000.000]', b'O M [2000.000,2000.000] [1000.001,1000.001]', b'O M [1.000,1.001] [1.000,1999999.999]',
+    b'O M [1414.213,1414.214] [1414.213,1414.214]', b'O D [2000000.000,2000000.000] [1.000,0.999]', b'O M [0.001,2000000.000] [0.001,1.000]',
+    # an exact end between 2000000.000 and 2000000.001: 4 outward, accepted inward
+    b'O M [0.000,1332445.037] [0.000,1.501]', b'I M [0.000,1332445.037] [0.000,1.501]',
+    # CR is an ordinary byte
+    b'O M ' + P + b' ' + P + b'\r', b'O\r M ' + P + b' ' + P, b'\r',
+]
+# The last line has no byte 10.
+SLIP = b'\n'.join(LINES) + b'\nO A [0.001,0.001] [0.000,0.000]'
