@@ -13,6 +13,19 @@ static void print_pair(const char *name, const dzb_pair pair) {
     }
 }
 
+/* What a count says: it solves box + coin times count = gross, end for end. A proper one is no list of the counts that there can be: in the
+ * second box below, [498.396,502.327], 496 coins fit for some weights (812.5 + 496 times 7.52 is 4542.42) and not for others (812 + 496 times
+ * 7.48 is 4522.08). An outward pair that is proper around an inward one that is not: the solution lies within a thousandth. */
+static const char *meaning(const dzb_pair outward, const dzb_pair inward) {
+    if (inward[0] <= inward[1]) {
+        return "proper: every count in the inward pair fits, whatever box and coins weigh within their ranges";
+    }
+    if (outward[0] > outward[1]) {
+        return "improper: whatever they weigh, some count between the inward ends fits, but no one count for all weights";
+    }
+    return "within a thousandth: neither can be told";
+}
+
 static void weigh(const char *box_text, const char *coin_text, const char *gross_text) {
     dzb_pair box, coin, gross, outward, inward;
     printf("box %s, coin %s, gross %s\n", box_text, coin_text, gross_text);
@@ -30,10 +43,7 @@ static void weigh(const char *box_text, const char *coin_text, const char *gross
     }
     print_pair("count outward", outward);
     print_pair("inward", inward);
-    if (outward[0] > outward[1]) {
-        printf("  improper: the gross reading is tighter than the coins' scatter allows");
-    }
-    printf("\n");
+    printf("\n  %s\n", meaning(outward, inward));
 }
 
 int main(void) {

@@ -10,9 +10,11 @@
 mod numbers;
 
 use directed::Answer;
+use directed::Binary;
 use directed::Cause;
 use directed::Interval;
 use directed::Rounding;
+use directed::Unary;
 use libc::STDIN_FILENO;
 use libc::STDOUT_FILENO;
 use lists::ListAnswer;
@@ -67,23 +69,36 @@ fn interval(line: &[u8], lower: usize, upper: usize) -> Interval {
     Interval::new(numbers::read(line, lower), numbers::read(line, upper))
 }
 
-fn unary(letter: u8, a: Interval) -> Answer {
+fn unary_of(letter: u8) -> Unary {
     match letter {
-        b'n' => arithmetic::negation(a),
-        b'o' => arithmetic::opposite(a),
-        _ => arithmetic::dual(a),
+        b'n' => Unary::Negation,
+        b'o' => Unary::Opposite,
+        _ => Unary::Dual,
     }
 }
 
-fn binary(letter: u8, a: Interval, b: Interval, rounding: Rounding) -> Answer {
+fn binary_of(letter: u8) -> Binary {
     match letter {
-        b's' => arithmetic::sum(a, b, rounding),
-        b'd' => arithmetic::difference(a, b, rounding),
-        b'p' => arithmetic::product(a, b, rounding),
-        b'q' => arithmetic::quotient(a, b, rounding),
-        b'j' => arithmetic::join(a, b),
-        _ => arithmetic::meet(a, b),
+        b's' => Binary::Sum,
+        b'd' => Binary::Difference,
+        b'p' => Binary::Product,
+        b'q' => Binary::Quotient,
+        b'j' => Binary::Join,
+        _ => Binary::Meet,
     }
+}
+
+fn unary(letter: u8, line: &[u8]) -> Answer {
+    arithmetic::unary(unary_of(letter), interval(line, 1, 2))
+}
+
+fn binary(letter: u8, line: &[u8], rounding: Rounding) -> Answer {
+    arithmetic::binary(
+        binary_of(letter),
+        interval(line, 2, 3),
+        interval(line, 4, 5),
+        rounding,
+    )
 }
 
 fn equation(line: &[u8], rounding: Rounding) -> Answer {
@@ -125,7 +140,7 @@ fn answer_rounded(line: &[u8], rounding: Rounding) {
     match line[2] {
         b'e' => show_answer(equation(line, rounding)),
         b'l' => list(line, rounding),
-        letter => show_answer(binary(letter, interval(line, 2, 3), interval(line, 4, 5), rounding)),
+        letter => show_answer(binary(letter, line, rounding)),
     }
 }
 
@@ -138,7 +153,7 @@ fn answer(line: &[u8]) {
         b'I' => answer_rounded(line, Rounding::Inward),
         b'r' => show_answer(text::read(&line[5..])),
         b'w' => write(line),
-        letter => show_answer(unary(letter, interval(line, 1, 2))),
+        letter => show_answer(unary(letter, line)),
     }
 }
 
