@@ -1,4 +1,4 @@
--- Steps of the reader of a pair: the two ends in turn, and the range. Assumes nothing.
+-- Steps of the reader of a pair: the two ends in turn, and the range.
 use mathlib.Core.Path.{_≡_, refl, sym, ap, ap₂, _∙_}
 use mathlib.Core.Bool.{Bool, true, false, cond, _&&_, _||_}
 use mathlib.Core.List.{List}
@@ -9,47 +9,46 @@ use lib.IntN.{pos}
 use lib.ListN.{length, drop, length-drop}
 use lib.Seq.{drop-drop}
 use borrow.Author.Tests.{eq-eqb, ne-eqb}
-use Rattle.directed.specs.Thousandths.{interval, outside, beyond-range}
-use Rattle.directed.specs.Answer.{Outcome, value, refusal, of-one}
+use Rattle.directed.specs.Thousandths.{Pair, outside, beyond-range}
+use Rattle.directed.specs.Lift.{interval}
+use Rattle.directed.specs.Answer.{Outcome, value, refusal, built}
 use Rattle.text.specs.declared.end.End.{End}
 use Rattle.text.specs.declared.end.EndRead.the-variants as E
-use Rattle.text.specs.Digits.{starts}
+use Rattle.decimal.specs.Digits.{starts}
 use Rattle.text.specs.Text.{minus, opening, comma, closing}
 use Rattle.text.specs.Form.{size, unsigned, end-form, signed, end-value, end-length, from-lower, behind-lower, from-upper, behind-upper, form, value-of}
-use Rattle.text.specs.Answer.{read}
-use Rattle.text.specs.Parts.{end-answer, judged, upper-answer, lower-answer, ends-answer}
-use Rattle.text.specs.DigitLaws.{starts-inside}
+use Rattle.text.specs.Answer.{within-range, read}
+use Rattle.text.specs.Parts.{end-answer, ends-of, upper-answer, lower-answer, ends-answer}
+use Rattle.decimal.specs.DigitLaws.{starts-inside}
 use Rattle.text.specs.Range.{outside-signed}
 
 -- the range of two ends
 
 module _ (m m′ : Bool) (n n′ : ℕ) where
-  beyond-is : beyond-range (interval (signed m n) (signed m′ n′)) ≡ (outside (pos n) || outside (pos n′))
-  unfolding beyond-range
-  beyond-is = ap₂ (λ a b. a || b) (outside-signed m n) (outside-signed m′ n′)
+  range-is : within-range (ends-of m n m′ n′) ≡ cond (outside (pos n) || outside (pos n′)) (refusal 2) (value (ends-of m n m′ n′))
+  unfolding within-range beyond-range
+  range-is = rw (outside-signed m n, outside-signed m′ n′)
 
-  pub lower-outside : outside (pos n) ≡ true → refusal 2 ≡ judged m n m′ n′
-  unfolding judged of-one
-  lower-outside e = rw (beyond-is, e)
+  pub lower-outside : outside (pos n) ≡ true → refusal 2 ≡ built (within-range (ends-of m n m′ n′))
+  lower-outside e = rw (range-is, e)
 
-  pub upper-outside : outside (pos n) ≡ false → outside (pos n′) ≡ true → refusal 2 ≡ judged m n m′ n′
-  unfolding judged of-one
-  upper-outside e f = rw (beyond-is, e, f)
+  module _ (e : outside (pos n) ≡ false) where
+    pub upper-outside : outside (pos n′) ≡ true → refusal 2 ≡ built (within-range (ends-of m n m′ n′))
+    upper-outside f = rw (range-is, e, f)
 
-  pub both-inside : outside (pos n) ≡ false → outside (pos n′) ≡ false → value (interval (signed m n) (signed m′ n′)) ≡ judged m n m′ n′
-  unfolding judged of-one
-  both-inside e f = rw (beyond-is, e, f)
+    pub both-inside : outside (pos n′) ≡ false → value (interval (ends-of m n m′ n′)) ≡ built (within-range (ends-of m n m′ n′))
+    both-inside f = rw (range-is, e, f)
 
 -- the whole text
 
-cut : (o f c x : Bool) (y r : Outcome) → cond (o && (f && (c && x))) y r ≡ cond o (cond (f && c) (cond x y r) r) r
+cut : (o f c x : Bool) (y r : Outcome Pair) → cond (o && (f && (c && x))) y r ≡ cond o (cond (f && c) (cond x y r) r) r
 cut true true true x y r = refl
 cut true true false x y r = refl
 cut true false c x y r = refl
 cut false f c x y r = refl
 
 read-is : (t : List ℕ) → read t ≡ cond (starts opening t) (lower-answer (drop 1 t)) (refusal 1)
-unfolding read form value-of end-value from-lower behind-lower from-upper behind-upper lower-answer upper-answer judged
+unfolding read form value-of end-value from-lower behind-lower from-upper behind-upper lower-answer upper-answer
 read-is t = cut (starts opening t) (end-form (drop 1 t)) (starts comma (drop (end-length (drop 1 t)) (drop 1 t))) _ _ (refusal 1)
 
 pub no-opening : (t : List ℕ) → starts opening t ≡ false → refusal 1 ≡ read t
@@ -109,7 +108,7 @@ module _ (text : List ℕ) {at : ℕ} {e : End} (i : Is (drop at text) at closin
   unfolding ends-answer upper-answer
   more-behind g = rw (i .in-form, i .marked, ne-eqb (length (drop (end-length (drop at text)) (drop at text))) 1 (λ q. g (omega (arith, upper-length))))
 
-  pub upper-read : e .next ≡ length text → judged m n (e .minus) (e .size) ≡ ends-answer false m n (drop at text)
+  pub upper-read : e .next ≡ length text → within-range (ends-of m n (e .minus) (e .size)) ≡ ends-answer false m n (drop at text)
   unfolding ends-answer upper-answer
   upper-read g = rw (i .in-form, i .marked, eq-eqb (length (drop (end-length (drop at text)) (drop at text))) 1 (omega (arith, upper-length)), i .sign, i .amount)
 

@@ -1,15 +1,14 @@
 -- Document 01, "Text and lines": what it is for bytes to be in the form, and which pair a text in form gives. An end is looked for at the
--- front of a text, and a pair in the whole of it. Assumes nothing.
+-- front of a text, and a pair in the whole of it.
 use mathlib.Core.Bool.{Bool, not, _&&_}
 use mathlib.Core.List.{List}
 use Prim.Native.Nat.{ℕ, _+_, _*_}
 use lib.Dec.{leb, eqb}
 use lib.IntN.{ℤ, pos, negℤ}
 use lib.ListN.{length, drop}
-use Rattle.directed.specs.declared.Interval.{Interval}
 use Rattle.directed.specs.Choice.{if_then_else_}
-use Rattle.directed.specs.Thousandths.{interval}
-use Rattle.text.specs.Digits.{number, plain, starts, front-digits}
+use Rattle.directed.specs.Thousandths.{Pair, pair}
+use Rattle.decimal.specs.Digits.{number, plain, starts, front-digits}
 use Rattle.text.specs.Text.{minus, point, opening, comma, closing}
 
 -- an end with no sign: the digits at the front, at most 7; what follows them; the digits behind one more byte, at most 3
@@ -75,5 +74,5 @@ form t =
     && (starts closing (behind-upper t) && eqb (length (behind-upper t)) 1))))
 
 -- value
-unfoldable pub value-of : List ℕ → Interval
-value-of t = interval (end-value (from-lower t)) (end-value (from-upper t))
+unfoldable pub value-of : List ℕ → Pair
+value-of t = pair (end-value (from-lower t)) (end-value (from-upper t))

@@ -1,7 +1,7 @@
--- "A printed pair reads back as the same pair, and no other text reads as it"; and exactly when each refusal comes. Assumes nothing.
+-- "A printed pair reads back as the same pair, and no other text reads as it"; and exactly when each refusal comes.
 use mathlib.Core.Path.{_≡_, refl, sym, ap, _∙_}
 use mathlib.Core.Bool.{Bool, true, false, cond}
-use mathlib.Core.List.{List}
+use mathlib.Core.List.{List, [], _∷_}
 use mathlib.Core.Logic.{_↔_}
 use Prim.Native.Nat.{ℕ, _<_}
 use native.Mathlib.Omega.{arith}
@@ -11,41 +11,45 @@ use lib.ListN.{length, take, drop}
 use lib.Seq.{take-append-seam}
 use borrow.Author.Tests.{leb-false, lt-leb}
 use Rattle.directed.specs.declared.Interval.{Interval}
-use Rattle.directed.specs.Thousandths.{interval, outside, beyond-range}
-use Rattle.directed.specs.Answer.{Outcome, value, refusal, of-one}
-use Rattle.text.specs.Digits.{digits, width, width-within, decimal}
-use Rattle.text.specs.Text.{text, end-text, sign-text, size-text}
+use Rattle.directed.specs.Thousandths.{Pair, pair, outside, beyond-range}
+use Rattle.directed.specs.Choice.{if_then_else_}
+use Rattle.directed.specs.Lift.{pair-of, faulty}
+use Rattle.directed.specs.Answer.{Outcome, value, refusal, unless, given, sound, cause}
+use Rattle.decimal.specs.Place.{over}
+use Rattle.decimal.specs.Digits.{digits, width, width-within, decimal}
+use Rattle.text.specs.Text.{text, end-text, sign-text, size-text, longest}
 use Rattle.text.specs.Form.{form, value-of}
-use Rattle.text.specs.Answer.{read, over, write, Writing, length-told, refusal-told, refused}
+use Rattle.text.specs.Answer.{within-range, read, in-room, leaving, write}
+use Rattle.text.specs.Range.{sound-range}
 use Rattle.text.specs.TextLaws.{Short, text-form, text-value, value-short, form-text, range-short}
 
 -- in form: the text of a pair whose ends have at most seven digits before the point
-abbrev pub Writes : List ℕ → Interval → Type 0
+abbrev pub Writes : List ℕ → Pair → Type 0
 Writes t a = Short a × (t ≡ text a)
 
-pub form-iff : (t : List ℕ) → (form t ≡ true) ↔ ((a : Interval) × Writes t a)
+pub form-iff : (t : List ℕ) → (form t ≡ true) ↔ ((a : Pair) × Writes t a)
 form-iff t = (λ e. (value-of t, (value-short t e, form-text t e)), λ w. rw (w .1 .1) (text-form (w .0) (w .1 .0)))
 
 -- what is read, by form and range
-chosen : Bool → Bool → Interval → Outcome
+chosen : Bool → Bool → Pair → Outcome Pair
 chosen f r a = cond f (cond r (refusal 2) (value a)) (refusal 1)
 
 read-is : (t : List ℕ) → read t ≡ chosen (form t) (beyond-range (value-of t)) (value-of t)
-unfolding read of-one chosen
+unfolding read within-range chosen
 read-is t = refl
 
 -- 1: the text of a pair in range is in form, and reads back as that pair
 
-pub text-in-form : (a : Interval) → beyond-range a ≡ false → form (text a) ≡ true
+pub text-in-form : (a : Pair) → beyond-range a ≡ false → form (text a) ≡ true
 text-in-form a e = text-form a (range-short a e)
 
-pub text-reads-back : (a : Interval) → beyond-range a ≡ false → read (text a) ≡ value a
-unfolding read of-one
+pub text-reads-back : (a : Pair) → beyond-range a ≡ false → read (text a) ≡ value a
+unfolding read within-range
 text-reads-back a e = rw (text-in-form a e, text-value a (range-short a e), e)
 
 -- 2: no other text reads as it
 
-pub text-reads-only : (t : List ℕ) (a : Interval) → read t ≡ value a → (t ≡ text a) × (beyond-range a ≡ false)
+pub text-reads-only : (t : List ℕ) (a : Pair) → read t ≡ value a → (t ≡ text a) × (beyond-range a ≡ false)
 unfolding chosen
 text-reads-only t a e = go (form t) (beyond-range (value-of t)) refl refl (sym (read-is t) ∙ e)
   where
@@ -54,14 +58,14 @@ text-reads-only t a e = go (form t) (beyond-range (value-of t)) refl refl (sym (
     go true true p q c = let z : _≡_ {A = ℕ} 0 1 = cc in absurd (omega arith)
     go false r p q c = let z : _≡_ {A = ℕ} 0 1 = cc in absurd (omega arith)
 
-pub text-reads-iff : (t : List ℕ) (a : Interval) → (read t ≡ value a) ↔ ((t ≡ text a) × (beyond-range a ≡ false))
+pub text-reads-iff : (t : List ℕ) (a : Pair) → (read t ≡ value a) ↔ ((t ≡ text a) × (beyond-range a ≡ false))
 text-reads-iff t a = (text-reads-only t a, λ w. rw (w .0) (text-reads-back a (w .1)))
 
 -- 3: "The longest valid text has 27 bytes." TextLaws.text-longest has the bound; [-2000000.000,-2000000.000] reaches it
 
-pub text-longest-occurs : (a : Interval) × (beyond-range a ≡ false) × (length (text a) ≡ 27)
+pub text-longest-occurs : (a : Pair) × (beyond-range a ≡ false) × (length (text a) ≡ longest)
 unfolding beyond-range outside text end-text sign-text size-text decimal width width-within digits
-text-longest-occurs = (interval (negsuc 1999999999) (negsuc 1999999999), refl, refl)
+text-longest-occurs = (pair (negsuc 1999999999) (negsuc 1999999999), refl, refl)
 
 -- 4: "text of a pair not in its form", and "a given end beyond the range"
 
@@ -85,14 +89,14 @@ read-2-iff t = (λ e. go (form t) (beyond-range (value-of t)) (sym (read-is t) �
 
 -- the same with no mention of how a text is taken apart: 1 if it is no pair's text, 2 if it is that of a pair with an end beyond the range
 
-pub read-1-writes : (t : List ℕ) → (read t ≡ refusal 1) ↔ (((a : Interval) × Writes t a) → ⊥)
+pub read-1-writes : (t : List ℕ) → (read t ≡ refusal 1) ↔ (((a : Pair) × Writes t a) → ⊥)
 read-1-writes t = (λ e w. let z : _≡_ {A = Bool} true false = sym (form-iff t .1 w) ∙ read-1-iff t .0 e in let n : _≡_ {A = ℕ} 0 1 = cc in omega arith, λ n. read-1-iff t .1 (go (form t) refl n))
   where
-    go : (f : Bool) → form t ≡ f → (((a : Interval) × Writes t a) → ⊥) → f ≡ false
+    go : (f : Bool) → form t ≡ f → (((a : Pair) × Writes t a) → ⊥) → f ≡ false
     go true e n = absurd (n (form-iff t .0 e))
     go false e n = refl
 
-pub read-2-writes : (t : List ℕ) → (read t ≡ refusal 2) ↔ ((a : Interval) × Writes t a × (beyond-range a ≡ true))
+pub read-2-writes : (t : List ℕ) → (read t ≡ refusal 2) ↔ ((a : Pair) × Writes t a × (beyond-range a ≡ true))
 read-2-writes t = (
   λ e. let p = read-2-iff t .0 e in (value-of t, (value-short t (p .0), form-text t (p .0)), p .1),
   λ w. rw (w .1 .1) (read-2-iff (text (w .0)) .1 (text-form (w .0) (w .1 .0), rw (text-value (w .0) (w .1 .0)) (w .2))),
@@ -100,49 +104,57 @@ read-2-writes t = (
 
 -- writing: each refusal exactly if its cause holds; then the buffer is as it was, and else its front reads back as the pair
 
-picked : Bool → Bool → Interval → List ℕ → Writing
-picked r f a d = cond r (refused 2 d) (cond f (record { answer = length-told (length (text a)); buffer = over (text a) d }) (refused 3 d))
+-- what is told, by the two tests
+choice : Bool → Bool → ℕ → Outcome ℕ
+choice r f n = cond r (refusal 2) (cond f (value n) (refusal 3))
 
-write-is : (a : Interval) (d : List ℕ) → write a d ≡ picked (beyond-range a) (leb (length (text a)) (length d)) a d
-unfolding write picked
-write-is a d = refl
+told-is : (a : Interval) (d : List ℕ) → write a d ≡ leaving (text (pair-of a)) d (choice (faulty a) (leb (length (text (pair-of a))) (length d)) (length (text (pair-of a))))
+unfolding write choice given in-room
+told-is a d = go (faulty a)
+  where
+    go : (r : Bool) → leaving (text (pair-of a)) d (unless (if r then cause 2 else sound) (in-room (text (pair-of a)) d))
+        ≡ leaving (text (pair-of a)) d (cond r (refusal 2) (in-room (text (pair-of a)) d))
+    go true = refl
+    go false = refl
 
 module _ (a : Interval) (d : List ℕ) where
-  pub write-2-iff : (write a d .answer ≡ refusal-told 2) ↔ (beyond-range a ≡ true)
-  unfolding picked
-  write-2-iff = (λ e. go (beyond-range a) (leb (length (text a)) (length d)) (ap (λ w. w .answer) (sym (write-is a d)) ∙ e), λ e. rw (write-is a d, e))
+  t : List ℕ
+  t = text (pair-of a)
+
+  pub write-2-iff : (write a d .answer ≡ refusal 2) ↔ (faulty a ≡ true)
+  unfolding t choice leaving
+  write-2-iff = (λ e. go (faulty a) (leb (length t) (length d)) (ap (λ w. w .answer) (sym (told-is a d)) ∙ e), λ e. rw (told-is a d, e))
     where
-      go : (r f : Bool) → picked r f a d .answer ≡ refusal-told 2 → r ≡ true
+      go : (r f : Bool) → leaving t d (choice r f (length t)) .answer ≡ refusal 2 → r ≡ true
       go true f c = refl
       go false true c = let z : _≡_ {A = ℕ} 0 1 = cc in absurd (omega arith)
       go false false c = let z : _≡_ {A = ℕ} 3 2 = cc in absurd (omega arith)
 
-  pub write-3-iff : (write a d .answer ≡ refusal-told 3) ↔ ((beyond-range a ≡ false) × (length d < length (text a)))
-  unfolding picked
+  pub write-3-iff : (write a d .answer ≡ refusal 3) ↔ ((faulty a ≡ false) × (length d < length (text (pair-of a))))
+  unfolding t choice leaving
   write-3-iff = (
-    λ e. let p = go (beyond-range a) (leb (length (text a)) (length d)) (ap (λ w. w .answer) (sym (write-is a d)) ∙ e) in (p .0, leb-false _ _ (p .1)),
-    λ w. rw (write-is a d, w .0, lt-leb (length (text a)) (length d) (w .1)),
+    λ e. let p = go (faulty a) (leb (length t) (length d)) (ap (λ w. w .answer) (sym (told-is a d)) ∙ e) in (p .0, leb-false _ _ (p .1)),
+    λ w. rw (told-is a d, w .0, lt-leb (length t) (length d) (w .1)),
   )
     where
-      go : (r f : Bool) → picked r f a d .answer ≡ refusal-told 3 → (r ≡ false) × (f ≡ false)
+      go : (r f : Bool) → leaving t d (choice r f (length t)) .answer ≡ refusal 3 → (r ≡ false) × (f ≡ false)
       go true f c = let z : _≡_ {A = ℕ} 2 3 = cc in absurd (omega arith)
       go false true c = let z : _≡_ {A = ℕ} 0 1 = cc in absurd (omega arith)
       go false false c = (refl, refl)
 
-  pub write-refused : (k : ℕ) → write a d .answer ≡ refusal-told k → write a d .buffer ≡ d
-  unfolding picked
-  write-refused k e = ap (λ w. w .buffer) (write-is a d) ∙ go (beyond-range a) (leb (length (text a)) (length d)) (ap (λ w. w .answer) (sym (write-is a d)) ∙ e)
+  pub write-refused : (k : ℕ) → write a d .answer ≡ refusal k → write a d .buffer ≡ d
+  unfolding write leaving
+  write-refused k e = go (unless (given (a ∷ [])) (in-room (text (pair-of a)) d)) e
     where
-      go : (r f : Bool) → picked r f a d .answer ≡ refusal-told k → picked r f a d .buffer ≡ d
-      go true f c = refl
-      go false true c = let z : _≡_ {A = ℕ} 0 1 = cc in absurd (omega arith)
-      go false false c = refl
+      go : (o : Outcome ℕ) → leaving (text (pair-of a)) d o .answer ≡ refusal k → leaving (text (pair-of a)) d o .buffer ≡ d
+      go (value n) c = let z : _≡_ {A = ℕ} 0 1 = cc in absurd (omega arith)
+      go (refusal k) c = refl
 
-  pub written-reads-back : (n : ℕ) → write a d .answer ≡ length-told n → read (take n (write a d .buffer)) ≡ value a
-  unfolding picked over
-  written-reads-back n e = rw (write-is a d) (go (beyond-range a) (leb (length (text a)) (length d)) refl (ap (λ w. w .answer) (sym (write-is a d)) ∙ e))
+  pub written-reads-back : (n : ℕ) → write a d .answer ≡ value n → read (take n (write a d .buffer)) ≡ value (pair-of a)
+  unfolding t choice leaving over
+  written-reads-back n e = rw (told-is a d) (go (faulty a) (leb (length t) (length d)) refl (ap (λ w. w .answer) (sym (told-is a d)) ∙ e))
     where
-      go : (r f : Bool) → beyond-range a ≡ r → picked r f a d .answer ≡ length-told n → read (take n (picked r f a d .buffer)) ≡ value a
+      go : (r f : Bool) → faulty a ≡ r → leaving t d (choice r f (length t)) .answer ≡ value n → read (take n (leaving t d (choice r f (length t)) .buffer)) ≡ value (pair-of a)
       go true f p c = let z : _≡_ {A = ℕ} 0 1 = cc in absurd (omega arith)
-      go false true p c = let q : length (text a) ≡ n = cc in rw (← q, take-append-seam (text a) (drop (length (text a)) d)) (text-reads-back a p)
+      go false true p c = let q : length t ≡ n = cc in rw (← q, take-append-seam t (drop (length t) d)) (text-reads-back (pair-of a) (sound-range a p))
       go false false p c = let z : _≡_ {A = ℕ} 0 1 = cc in absurd (omega arith)

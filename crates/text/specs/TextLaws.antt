@@ -1,4 +1,4 @@
--- The text of a pair is in form and has its value; a text in form is the text of its value; how long it is. Assumes nothing.
+-- The text of a pair is in form and has its value; a text in form is the text of its value; how long it is.
 use mathlib.Core.Path.{_≡_, ap, _∙_}
 use mathlib.Core.Bool.{Bool, true, false, _&&_, false≢true}
 use mathlib.Core.List.{List, [], _∷_, _++_}
@@ -10,22 +10,21 @@ use lib.Signed.{ltZ}
 use lib.ListN.{length, drop, length-append}
 use lib.Seq.{drop-append-seam}
 use borrow.Author.Tests.{eqb-true}
-use Rattle.text.specs.Digits.{starts}
-use Rattle.directed.specs.declared.Interval.{Interval}
-use Rattle.directed.specs.Thousandths.{interval, beyond-range}
-use Rattle.text.specs.Text.{opening, comma, closing, end-text, text}
+use Rattle.decimal.specs.Digits.{starts}
+use Rattle.directed.specs.Thousandths.{Pair, beyond-range}
+use Rattle.text.specs.Text.{opening, comma, closing, end-text, text, longest}
 use Rattle.text.specs.Form.{end-form, end-value, from-lower, behind-lower, from-upper, behind-upper, form, value-of}
-use Rattle.text.specs.Range.{range-lower, range-upper}
-use Rattle.text.specs.EndLaws.{both, four, starts-cons, text-end-form, text-end-value, text-end-length, end-value-lt, end-form-text, end-text-length, sign-bit, size-text-le}
+use Rattle.text.specs.Range.{inside-size, range-ends}
+use Rattle.text.specs.EndLaws.{both, four, starts-cons, text-end-form, text-end-value, text-end-length, end-value-lt, end-form-text, end-text-length, sign-bit, size-text-le, seven-places}
 
 -- two ends of at most seven digits before the point
-pub record Short (a : Interval) : Type 0 where
-  pub lower-short : natAbs (a .lower) < 10000000000
-  pub upper-short : natAbs (a .upper) < 10000000000
+pub record Short (a : Pair) : Type 0 where
+  pub lower-short : natAbs (a .lower) < seven-places
+  pub upper-short : natAbs (a .upper) < seven-places
 
 -- the text of a pair is in form and has its value
 
-module _ (a : Interval) (h : Short a) where
+module _ (a : Pair) (h : Short a) where
   text-behind-lower : behind-lower (text a) ≡ comma ∷ (end-text (a .upper) ++ (closing ∷ []))
   unfolding behind-lower from-lower text
   text-behind-lower =
@@ -85,19 +84,22 @@ module _ (t : List ℕ) (e : form t ≡ true) where
       starts-cons opening t (parts .0) ∙ ap (λ s. opening ∷ s) (l ∙ ap (λ s. end-text (end-value (from-lower t)) ++ (comma ∷ s)) u)
 
 -- the range is within seven digits
-pub range-short : (a : Interval) → beyond-range a ≡ false → Short a
-range-short a e = record { lower-short = omega (arith, range-lower a e); upper-short = omega (arith, range-upper a e) }
+pub range-short : (a : Pair) → beyond-range a ≡ false → Short a
+range-short a e =
+    let r = range-ends a e in
+    record { lower-short = omega (arith, inside-size (a .lower) (r .0)); upper-short = omega (arith, inside-size (a .upper) (r .1)) }
 
--- the longest text has 27 bytes
+-- how long a text is
 
-pub end-text-le : (e : ℤ) → natAbs e < 10000000000 → length (end-text e) ≤ 12
+pub end-text-le : (e : ℤ) → natAbs e < seven-places → length (end-text e) ≤ 12
 end-text-le e h = omega (arith, end-text-length e, sign-bit (ltZ e (pos 0)), size-text-le (natAbs e) h)
 
-pub text-length : (l u : ℤ) → length (text (interval l u)) ≡ length (end-text l) + length (end-text u) + 3
+pub text-length : (a : Pair) → length (text a) ≡ length (end-text (a .lower)) + length (end-text (a .upper)) + 3
 unfolding text
-text-length l u = omega (arith, length-append (end-text l) (comma ∷ (end-text u ++ (closing ∷ []))), length-append (end-text u) (closing ∷ []))
+text-length a = omega (arith, length-append (end-text (a .lower)) (comma ∷ (end-text (a .upper) ++ (closing ∷ []))), length-append (end-text (a .upper)) (closing ∷ []))
 
-pub text-longest : (a : Interval) → beyond-range a ≡ false → length (text a) ≤ 27
-text-longest a e =
-    let s = range-short a e in
-    omega (arith, text-length (a .lower) (a .upper), end-text-le (a .lower) (s .lower-short), end-text-le (a .upper) (s .upper-short))
+pub short-longest : (a : Pair) → Short a → length (text a) ≤ longest
+short-longest a s = omega (arith, text-length a, end-text-le (a .lower) (s .lower-short), end-text-le (a .upper) (s .upper-short))
+
+pub text-longest : (a : Pair) → beyond-range a ≡ false → length (text a) ≤ longest
+text-longest a e = short-longest a (range-short a e)

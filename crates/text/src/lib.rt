@@ -4,17 +4,15 @@ use directed::Cause;
 use directed::Interval;
 use end::EndRead;
 ghost use mathlib.Core.Path.{_≡_};
-ghost use mathlib.Core.Bool.{false, cond};
-ghost use mathlib.Core.List.{_∷_};
-ghost use Prim.Native.Nat.{_+_, _≤_};
+ghost use mathlib.Core.Bool.{cond};
 ghost use lib.Dec.{leb};
 ghost use lib.ListN.{length};
-ghost use Rattle.directed.specs.Thousandths.{interval, outside, beyond-range};
-ghost use Rattle.directed.specs.Answer.{outcome};
-ghost use Rattle.text.specs.Text.{comma, closing, end-text, text};
-ghost use Rattle.text.specs.Answer.{read, write, writing};
-ghost use Rattle.text.specs.Parts.{judged};
-ghost use Rattle.text.specs.Over.{Wrote};
+ghost use Rattle.decimal.specs.PlaceLaws.{Fitting};
+ghost use Rattle.directed.specs.Thousandths.{pair};
+ghost use Rattle.directed.specs.Answer.{outcome, built};
+ghost use Rattle.text.specs.Text.{comma, closing, text};
+ghost use Rattle.text.specs.Answer.{within-range, read, write, writing};
+ghost use Rattle.text.specs.Parts.{ends-of};
 
 mod digits;
 mod end;
@@ -27,7 +25,7 @@ pub enum Written {
 
 // Two ends in form, each with its sign and its thousandths.
 fn judge(lm: bool, lower: u64, um: bool, upper: u64) -> Answer
-    ensures { λ r. ⌜ outcome r ≡ judged lm lower um upper ⌝ }
+    ensures { λ r. ⌜ outcome r ≡ built (within-range (ends-of lm lower um upper)) ⌝ }
 {
     if end::is_outside(lower) {
         return Answer::Refused(Cause::EndBeyondRange);
@@ -37,7 +35,7 @@ fn judge(lm: bool, lower: u64, um: bool, upper: u64) -> Answer
     }
     let l = end::signed_of(lm, lower);
     let u = end::signed_of(um, upper);
-    Answer::Value(Interval { lower: l, upper: u })
+    Answer::Value(Interval::new(l, u))
 }
 
 fn mark_behind(first: bool) -> u8
@@ -49,7 +47,7 @@ fn mark_behind(first: bool) -> u8
 // The interval that a text writes: refused with 1 if the text is not in form, with 2 if an end is beyond the range.
 // One call reads both ends, so that the compiler puts the reader of an end in its place and keeps it all in registers.
 pub fn read(text: &[u8]) -> Answer
-    ensures { λ r. ⌜ outcome r ≡ read (now (text .entry)) ⌝ }
+    ensures { λ r. ⌜ outcome r ≡ built (read (now (text .entry))) ⌝ }
 {
     if text.len() == 0 {
         return Answer::Refused(Cause::Malformed);
@@ -83,10 +81,9 @@ pub fn read(text: &[u8]) -> Answer
     }
 }
 
-// Whether the text of two ends within the range finds room. The longest has 27 bytes, so mostly no length is computed.
+// Whether the text of two ends finds room. The longest has 27 bytes, so mostly no length is computed.
 fn has_room(lower: i32, upper: i32, room: usize) -> bool
-    requires { ⌜ beyond-range (interval lower upper) ≡ false ⌝ }
-    ensures { λ r. ⌜ r ≡ leb (length (text (interval lower upper))) room ⌝ }
+    ensures { λ r. ⌜ r ≡ leb (length (text (pair lower upper))) room ⌝ }
 {
     if 27 <= room {
         return true;
@@ -94,29 +91,21 @@ fn has_room(lower: i32, upper: i32, room: usize) -> bool
     end::end_length(lower) + end::end_length(upper) + 3 <= room
 }
 
-// A mark and an end behind it from `at` on, and the place behind them.
-fn put_marked(mark: u8, e: i32, at: usize, buffer: &mut [u8]) -> usize
-    requires { ⌜ (outside e ≡ false) × (at + length (mark ∷ end-text e) ≤ length (now buffer)) ⌝ }
-    ensures { λ r. ⌜ Wrote (mark ∷ end-text e) at (now (buffer .entry)) r (now (buffer .exit)) ⌝ }
-{
-    let start = digits::put_byte(mark, at, buffer);
-    end::put_end(e, start, buffer)
-}
-
 fn put_interval(lower: i32, upper: i32, buffer: &mut [u8]) -> usize
-    requires { ⌜ (beyond-range (interval lower upper) ≡ false) × (length (text (interval lower upper)) ≤ length (now buffer)) ⌝ }
-    ensures { λ r. ⌜ Wrote (text (interval lower upper)) 0 (now (buffer .entry)) r (now (buffer .exit)) ⌝ }
+    ensures { λ r. ⌜ Fitting (text (pair lower upper)) 0 (now (buffer .entry)) r (now (buffer .exit)) ⌝ }
 {
-    let comma = put_marked(b'[', lower, 0, buffer);
-    let closing = put_marked(b',', upper, comma, buffer);
-    digits::put_byte(b']', closing, buffer)
+    let first = decimal::put_byte(b'[', 0, buffer);
+    let comma = end::put_end(lower, first, buffer);
+    let second = decimal::put_byte(b',', comma, buffer);
+    let closing = end::put_end(upper, second, buffer);
+    decimal::put_byte(b']', closing, buffer)
 }
 
-// The text of an interval over the front of a buffer: refused with 2 if an end is beyond the range, with 3 if the buffer is too short.
+// The text of an interval over the front of a buffer: refused with 2 if the interval is faulty, with 3 if the buffer is too short.
 pub fn write(a: Interval, buffer: &mut [u8]) -> Written
     ensures { λ r. ⌜ writing r (now (buffer .exit)) ≡ write a (now (buffer .entry)) ⌝ }
 {
-    if a.is_beyond_range() {
+    if a.is_faulty() {
         return Written::Refused(Cause::EndBeyondRange);
     }
     let lower = a.lower;

@@ -1,8 +1,9 @@
--- `read` meets its contract. The invariant: what is left, from the first or the second end on, gives the answer of the whole. Assumes nothing.
+-- `read` meets its contract. The invariant: what is left, from the first or the second end on, gives the answer of the whole.
 use Prim.Native.Nat.{ℕ, _≤_, _<_}
+use Rattle.directed.specs.Answer.{built}
 use Rattle.text.proofs.Intervals.{Is, end-is, no-opening, from-opening, no-end, more-behind, upper-read, lower-inside, lower-read}
 use Rattle.text.specs.Answer.{read}
-use Rattle.text.specs.DigitLaws.{starts-at, starts-end}
+use Rattle.decimal.specs.DigitLaws.{starts-at, starts-end}
 use Rattle.text.specs.Parts.{ends-answer}
 use Rattle.text.specs.Text.{opening, comma, closing}
 use borrow.Author.Needs.{needs}
@@ -41,7 +42,7 @@ found c mark e k =
     rw m at (end-is _ _ _ _ (sym (c .found .given .1) ∙ c .before .before .read-end .ensures))
 
 returns : tie.Need-returns Inv-loop μ-loop
-returns c = let t = c .before .before .args .text .now in no-opening t (starts-end opening 0 t (omega (arith, c .if1 .taken)))
+returns c = let t = c .before .before .args .text .now in ap built (no-opening t (starts-end opening 0 t (omega (arith, c .if1 .taken))))
 
 shared-slice-read-if2 : tie.Need-shared-slice-read-if2 Inv-loop μ-loop
 shared-slice-read-if2 c = omega (arith, c .before .if1 .left)
@@ -49,36 +50,27 @@ shared-slice-read-if2 c = omega (arith, c .before .if1 .left)
 returns-2 : tie.Need-returns-2 Inv-loop μ-loop
 returns-2 c =
     let t = c .before .before .before .before .args .text .now in
-    no-opening t (starts-at opening 0 t (some (c .before .before)) ∙ ne-eqb _ opening (c .if2 .taken))
+    ap built (no-opening t (starts-at opening 0 t (some (c .before .before)) ∙ ne-eqb _ opening (c .if2 .taken)))
 
 loop-holds : tie.Need-loop-holds Inv-loop μ-loop
 loop-holds c =
     let t = c .before .before .before .before .args .text .now in
     (some (c .before .before), from-opening t (starts-at opening 0 t (some (c .before .before)) ∙ eq-eqb _ opening (c .if2 .left)))
 
-mark-behind-requires : tie.Need-mark-behind-requires Inv-loop μ-loop
-mark-behind-requires c κs = search needs
-
 read-end-requires : tie.Need-read-end-requires Inv-loop μ-loop
 read-end-requires c κs = c .before .loop .inv .0
-
-enum-known-found : tie.Need-enum-known-found Inv-loop μ-loop
-enum-known-found c = search needs
 
 returns-3 : tie.Need-returns-3 Inv-loop μ-loop
 returns-3 c =
     let l = c .before .before .before .before .before .before .before .before .loop in
     let e = not-true _ (c .before .before .if3 .taken) in
-    more-behind (c .before .before .before .before .before .before .before .before .before .before .before .before .before .args .text .now) (found (c .before .before .before .before) closing e refl) (l .minus) (l .size) (c .if4 .taken) ∙ turn (c .before .before .before .before .before .before .before .before) e
-
-judge-requires : tie.Need-judge-requires Inv-loop μ-loop
-judge-requires c κs = search needs
+    ap built (more-behind (c .before .before .before .before .before .before .before .before .before .before .before .before .before .args .text .now) (found (c .before .before .before .before) closing e refl) (l .minus) (l .size) (c .if4 .taken) ∙ turn (c .before .before .before .before .before .before .before .before) e)
 
 returns-4 : tie.Need-returns-4 Inv-loop μ-loop
 returns-4 c =
     let l = c .before .before .before .before .before .before .before .before .before .loop in
     let e = not-true _ (c .before .before .before .if3 .taken) in
-    c .judge .ensures ∙ upper-read (c .before .before .before .before .before .before .before .before .before .before .before .before .before .before .args .text .now) (found (c .before .before .before .before .before) closing e refl) (l .minus) (l .size) (c .before .if4 .left) ∙ turn (c .before .before .before .before .before .before .before .before .before) e
+    c .judge .ensures ∙ ap built (upper-read (c .before .before .before .before .before .before .before .before .before .before .before .before .before .before .args .text .now) (found (c .before .before .before .before .before) closing e refl) (l .minus) (l .size) (c .before .if4 .left) ∙ turn (c .before .before .before .before .before .before .before .before .before) e)
 
 loop-less : tie.Need-loop-less Inv-loop μ-loop
 loop-less c = let e : c .before .before .before .before .before .before .loop .first ≡ true = not-false _ (c .if3 .left) in rw e (omega arith)
@@ -90,13 +82,10 @@ loop-again c =
     let i = found (c .before .before) comma e refl in
     (lower-inside (c .before .before .before .before .before .before .before .before .before .before .before .args .text .now) i (l .minus) (l .size), lower-read (c .before .before .before .before .before .before .before .before .before .before .before .args .text .now) i (l .minus) (l .size) ∙ turn (c .before .before .before .before .before .before) e)
 
-enum-told : tie.Need-enum-told Inv-loop μ-loop
-enum-told c = search needs
-
 returns-5 : tie.Need-returns-5 Inv-loop μ-loop
 returns-5 c =
     let l = c .before .before .before .before .loop in
-    no-end (l .first) (l .minus) (l .size) (l .at) _ _ (c .before .before .before .mark-behind .ensures) (sym (c .enum-told .given .1) ∙ c .before .before .read-end .ensures) ∙ l .inv .1
+    ap built (no-end (l .first) (l .minus) (l .size) (l .at) _ _ (c .before .before .before .mark-behind .ensures) (sym (c .enum-told .given .1) ∙ c .before .before .read-end .ensures) ∙ l .inv .1)
 
 pub read-spec : {M : Type 1} → statement M
 read-spec =
@@ -108,13 +97,13 @@ read-spec =
     shared-slice-read-if2
     returns-2
     loop-holds
-    mark-behind-requires
+    (λ c κs. search needs)
     read-end-requires
-    enum-known-found
+    (λ c. search needs)
     returns-3
-    judge-requires
+    (λ c κs. search needs)
     returns-4
     loop-less
     loop-again
-    enum-told
+    (λ c. search needs)
     returns-5)
