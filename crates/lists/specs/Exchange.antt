@@ -1,34 +1,33 @@
 -- Exchange of ends: exchange the ends of every constant of a list and put meet for join and join for meet, and its outward answer is the dual of
--- the former inward answer, or both are refused alike, with the same number and step; and with the ways exchanged. Assumes nothing.
-use mathlib.Core.Path.{_≡_, refl, ap, _∙_}
+-- the former inward answer, or both are refused alike, with the same number and step; and with the ways exchanged.
+use mathlib.Core.Path.{_≡_, refl, sym, ap, _∙_}
+use mathlib.Core.Bool.{Bool, true, false, _||_}
 use mathlib.Core.List.{List, [], _∷_, map}
 use Prim.Native.Nat.{ℕ, zero, suc}
 use native.Mathlib.Omega.{arith}
 use lib.Dec.{eqb}
 use lib.ListN.{length, drop, length-map}
-use borrow.Author.Tests.{le-ltb, ne-eqb}
-use Rattle.directed.specs.declared.Interval.{Interval}
+use borrow.Author.Tests.{le-ltb, eqb-true}
 use Rattle.directed.specs.declared.Rounding.{Rounding}
 use Rattle.directed.specs.declared.Rounding.the-variants.{Outward, Inward}
+use Rattle.directed.specs.declared.Unary.{Unary}
+use Rattle.directed.specs.declared.Unary.the-variants.{Negation, Opposite, Dual}
+use Rattle.directed.specs.declared.Binary.{Binary}
+use Rattle.directed.specs.declared.Binary.the-variants.{Sum, Difference, Product, Quotient, Join, Meet}
 use Rattle.directed.specs.Choice.{if_then_else_}
-use Rattle.directed.specs.Exact as exactly
-use Rattle.directed.specs.Exact.{Exact, _≋_}
-use Rattle.directed.specs.Thousandths.{exact, dual, rounded, other-way}
+use Rattle.directed.specs.Thousandths.{Pair, dual, other-way, under}
 use Rattle.directed.specs.Answer as answers
+use Rattle.directed.specs.Answer.{Outcome, Judgement, sound, cause, unless, unjudged-unary, unjudged-binary}
 use Rattle.directed_laws.specs.Exchange as laws
-use Rattle.directed_laws.specs.Exchange.{in-range-exchange}
-use Rattle.directed_laws.specs.Product.{product-dual}
-use Rattle.directed_laws.specs.Thousandths.{≡→≋, dual-range}
-use Rattle.lists.specs.declared.Unary.{Unary}
-use Rattle.lists.specs.declared.Unary.the-variants.{Negation, Opposite, Dual}
-use Rattle.lists.specs.declared.Binary.{Binary}
-use Rattle.lists.specs.declared.Binary.the-variants.{Sum, Difference, Product, Join, Meet}
+use Rattle.directed_laws.specs.Exchange.{dual-of, unary-exchange, binary-exchange}
+use Rattle.directed_laws.specs.Thousandths.{dual-range}
 use Rattle.lists.specs.declared.Step.{Step}
-use Rattle.lists.specs.declared.Step.the-variants.{Constant, One, Two, Unknown}
-use Rattle.lists.specs.Steps.{step-of, follows, constant-in}
-use Rattle.lists.specs.Lists.{Result, value, refusal, Judgement, sound, cause, judgement, Expression, constant, one, two, stepped, Reading, whole, refused, at-end, unless, read, under, unary, binary, at, after, evaluated, result, answer}
-use Rattle.lists.specs.ExactValue.{exact-unary, exact-binary}
-use Rattle.lists.specs.Containment.{unary-rounded, binary-rounded}
+use Rattle.lists.specs.declared.Step.the-variants.{Constant, One, Two}
+use Rattle.lists.specs.declared.Code.{Code}
+use Rattle.lists.specs.declared.Code.the-variants.{Known, Unknown}
+use Rattle.lists.specs.Steps.{code-of, follows, constant-in}
+use Rattle.lists.specs.Lists.{Result, value, refusal, at, after, judgement, admitted, Expression, constant, one, two, stepped, at-end, read, evaluated, answer}
+use Rattle.lists.specs.Table.{of-code}
 
 -- ---- the list that is meant: at a code, or at the bytes of a constant
 pub data Place : Type 0 where
@@ -55,78 +54,55 @@ abbrev pub exchange : List ℕ → List ℕ
 exchange s = exchange-from at-code s
 
 -- ---- the answer that is meant
-abbrev pub exchanged : Result → Result
+abbrev pub exchanged : Result Pair → Result Pair
 exchanged (value a) = value (dual a)
 exchanged (refusal n k) = refusal n k
 
 -- ---- expressions
-abbrev exchange-binary : Binary → Binary
-exchange-binary Sum = Sum
-exchange-binary Difference = Difference
-exchange-binary Product = Product
-exchange-binary Join = Meet
-exchange-binary Meet = Join
-
 abbrev exchange-step : Step → Step
 exchange-step Constant = Constant
 exchange-step (One f) = One f
-exchange-step (Two g) = Two (exchange-binary g)
-exchange-step Unknown = Unknown
+exchange-step (Two g) = Two (dual-of g)
 
 unfoldable exchange-tree : Expression → Expression
 exchange-tree (constant k p) = constant k (dual p)
 exchange-tree (one k f a) = one k f (exchange-tree a)
-exchange-tree (two k g a b) = two k (exchange-binary g) (exchange-tree a) (exchange-tree b)
+exchange-tree (two k g a b) = two k (dual-of g) (exchange-tree a) (exchange-tree b)
 
-abbrev exchange-reading : Reading → Reading
-exchange-reading (whole t) = whole (exchange-tree t)
-exchange-reading (refused n k) = refused n k
+abbrev exchange-reading : Result Expression → Result Expression
+exchange-reading (value t) = value (exchange-tree t)
+exchange-reading (refusal n k) = refusal n k
 
--- ---- each operation
-by-way : (w : Rounding) (x y : Exact) → x ≋ exactly.dual y
-    → answers.in-range (rounded (other-way w) x) ≡ laws.exchanged (answers.in-range (rounded w y))
-by-way Outward x y e = in-range-exchange Inward x y e
-by-way Inward x y e = in-range-exchange Outward x y e
+-- ---- the value of an expression
+other-back : (w : Rounding) → other-way (other-way w) ≡ w
+other-back Outward = refl
+other-back Inward = refl
 
-unary-dual : (f : Unary) (x : Exact) → exact-unary f (exactly.dual x) ≡ exactly.dual (exact-unary f x)
-unary-dual Negation x = refl
-unary-dual Opposite x = refl
-unary-dual Dual x = refl
+dual-back : (g : Binary) → dual-of (dual-of g) ≡ g
+dual-back Sum = refl
+dual-back Difference = refl
+dual-back Product = refl
+dual-back Quotient = refl
+dual-back Join = refl
+dual-back Meet = refl
 
-unary-exchange : (f : Unary) (a : Interval) → unary f (dual a) ≡ laws.exchanged (unary f a)
-unary-exchange f a =
-    rw (unary-rounded Inward f (dual a), unary-rounded Outward f a)
-    (by-way Outward _ _ (≡→≋ _ _ (unary-dual f (exact a))))
-
-binary-dual : (g : Binary) (x y : Exact) → exact-binary (exchange-binary g) (exactly.dual x) (exactly.dual y) ≋ exactly.dual (exact-binary g x y)
-binary-dual Sum x y = ≡→≋ _ _ refl
-binary-dual Difference x y = ≡→≋ _ _ refl
-binary-dual Product x y = product-dual x y
-binary-dual Join x y = ≡→≋ _ _ refl
-binary-dual Meet x y = ≡→≋ _ _ refl
-
-binary-exchange : (w : Rounding) (g : Binary) (a b : Interval) → binary (other-way w) (exchange-binary g) (dual a) (dual b) ≡ laws.exchanged (binary w g a b)
-binary-exchange w g a b =
-    rw (binary-rounded (other-way w) (exchange-binary g) (dual a) (dual b), binary-rounded w g a b)
-    (by-way w _ _ (binary-dual g (exact a) (exact b)))
-
-at-exchange : (k : ℕ) (o : answers.Outcome) → at k (laws.exchanged o) ≡ exchanged (at k o)
+at-exchange : (k : ℕ) (o : Outcome Pair) → at k (laws.exchanged o) ≡ exchanged (at k o)
 at-exchange k (answers.value a) = refl
 at-exchange k (answers.refusal n) = refl
 
--- ---- the value of an expression
 under-other : (f : Unary) (w : Rounding) → under f (other-way w) ≡ other-way (under f w)
 under-other Negation w = refl
 under-other Opposite w = refl
 under-other Dual w = refl
 
-after-one : (k : ℕ) (f : Unary) (r : Result) → after (exchanged r) (λ x. at k (unary f x)) ≡ exchanged (after r λ x. at k (unary f x))
-after-one k f (value x) = ap (at k) (unary-exchange f x) ∙ at-exchange k (unary f x)
+after-one : (k : ℕ) (f : Unary) (r : Result Pair) → after (exchanged r) (λ x. at k (unjudged-unary f x)) ≡ exchanged (after r λ x. at k (unjudged-unary f x))
+after-one k f (value x) = ap (at k) (unary-exchange f x) ∙ at-exchange k (unjudged-unary f x)
 after-one k f (refusal n i) = refl
 
-after-two : (k : ℕ) (w : Rounding) (g : Binary) (r q : Result)
-    → after (exchanged r) (λ x. after (exchanged q) λ y. at k (binary (other-way w) (exchange-binary g) x y)) ≡ exchanged (after r λ x. after q λ y. at k (binary w g x y))
-after-two k w g (value x) (value y) = ap (at k) (binary-exchange w g x y) ∙ at-exchange k (binary w g x y)
+after-two : (k : ℕ) (w : Rounding) (g : Binary) (r q : Result Pair)
+    → after (exchanged r) (λ x. after (exchanged q) λ y. at k (unjudged-binary (other-way w) (dual-of g) x y))
+    ≡ exchanged (after r λ x. after q λ y. at k (unjudged-binary w g x y))
+after-two k w g (value x) (value y) = ap (at k) (binary-exchange (other-way w) (dual-of g) x y) ∙ rw (other-back w, dual-back g) (at-exchange k (unjudged-binary w g x y))
 after-two k w g (value x) (refusal n i) = refl
 after-two k w g (refusal n i) q = refl
 
@@ -136,42 +112,111 @@ evaluated-exchange w (constant k p) = refl
 evaluated-exchange w (one k f a) = rw (under-other f w, evaluated-exchange (under f w) a) (after-one k f (evaluated (under f w) a))
 evaluated-exchange w (two k g a b) = rw (evaluated-exchange w a, evaluated-exchange w b) (after-two k w g (evaluated w a) (evaluated w b))
 
+-- ---- a code other than 0: no bytes follow it, and it is 7 or 8, or its step is its own exchange
+is-own : Step → Bool
+is-own Constant = true
+is-own (One f) = true
+is-own (Two Sum) = true
+is-own (Two Difference) = true
+is-own (Two Product) = true
+is-own (Two Quotient) = true
+is-own (Two Join) = false
+is-own (Two Meet) = false
+
+own-is : (s : Step) → is-own s ≡ true → exchange-step s ≡ s
+unfolding is-own
+own-is Constant e = refl
+own-is (One f) e = refl
+own-is (Two Sum) e = refl
+own-is (Two Difference) e = refl
+own-is (Two Product) e = refl
+own-is (Two Quotient) e = refl
+own-is (Two Join) e = cc
+own-is (Two Meet) e = cc
+
+own-but : ℕ → Step → Bool
+own-but n s = eqb n 7 || (eqb n 8 || is-own s)
+
+-- no bytes follow a step
+is-plain : Step → Bool
+is-plain Constant = false
+is-plain (One f) = true
+is-plain (Two g) = true
+
+plain-but : ℕ → Step → Bool
+plain-but zero s = true
+plain-but (suc n) s = is-plain s
+
+plain-code : (c : ℕ) (s : Step) → code-of (suc c) ≡ Known s → is-plain s ≡ true
+unfolding plain-but is-plain
+plain-code c s e = of-code plain-but refl (suc c) e
+
+abbrev exchange-known : Code → Code
+exchange-known (Known s) = Known (exchange-step s)
+exchange-known Unknown = Unknown
+
+own-code : (c : ℕ) → eqb c 7 ≡ false → eqb c 8 ≡ false → code-of c ≡ exchange-known (code-of c)
+unfolding own-but is-own
+own-code c h k = go (code-of c) refl
+  where
+    go : (x : Code) → code-of c ≡ x → x ≡ exchange-known x
+    go Unknown e = refl
+    go (Known s) e = ap Known (sym (own-is s (rw (h, k) at (of-code own-but refl c e))))
+
+code-exchange : (c : ℕ) → code-of (exchange-code c) ≡ exchange-known (code-of c)
+unfolding code-of
+code-exchange c = go (eqb c 7) (eqb c 8) refl refl
+  where
+    go : (x y : Bool) → eqb c 7 ≡ x → eqb c 8 ≡ y → code-of (if x then 8 else (if y then 7 else c)) ≡ exchange-known (code-of c)
+    go true y h k = rw (eqb-true c 7 h)
+    go false true h k = rw (eqb-true c 8 k)
+    go false false h k = own-code c h k
+
 -- ---- reading
-code-exchange : (c : ℕ) → (step-of (exchange-code (suc c)) ≡ exchange-step (step-of (suc c))) × (follows (step-of (suc c)) ≡ 0)
-unfolding step-of
-code-exchange zero = (refl, refl)
-code-exchange (suc zero) = (refl, refl)
-code-exchange (suc (suc zero)) = (refl, refl)
-code-exchange (suc (suc (suc zero))) = (refl, refl)
-code-exchange (suc (suc (suc (suc zero)))) = (refl, refl)
-code-exchange (suc (suc (suc (suc (suc zero))))) = (refl, refl)
-code-exchange (suc (suc (suc (suc (suc (suc zero)))))) = (refl, refl)
-code-exchange (suc (suc (suc (suc (suc (suc (suc zero))))))) = (refl, refl)
-code-exchange (suc (suc (suc (suc (suc (suc (suc (suc n)))))))) = let m : ℕ = suc (suc (suc (suc (suc (suc (suc (suc (suc n)))))))) in (rw (ne-eqb m 7 (omega arith), ne-eqb m 8 (omega arith)), refl)
+unless-exchange : (j : Judgement) (k : ℕ) (s s′ : Step) (f g : Step → Result Expression) → f s′ ≡ exchange-reading (g s)
+    → after (at k (unless j (answers.value s′))) f ≡ exchange-reading (after (at k (unless j (answers.value s))) g)
+unless-exchange sound k s s′ f g e = e
+unless-exchange (cause n) k s s′ f g e = refl
 
-follows-exchange : (s : Step) → follows (exchange-step s) ≡ follows s
-follows-exchange Constant = refl
-follows-exchange (One f) = refl
-follows-exchange (Two g) = refl
-follows-exchange Unknown = refl
+module _ (v l k : ℕ) (r q : List ℕ) (ts : List Expression) where
+  judgement-exchange : (d : ℕ) (s : Step) → is-plain s ≡ true → judgement v d (exchange-step s) q ≡ judgement v d s r
+  unfolding judgement is-plain
+  judgement-exchange d Constant e = cc
+  judgement-exchange d (One f) e = rw (le-ltb (length q) 0 (omega arith), le-ltb (length r) 0 (omega arith))
+  judgement-exchange d (Two g) e = rw (le-ltb (length q) 0 (omega arith), le-ltb (length r) 0 (omega arith))
 
-judgement-exchange : (v d : ℕ) (s : Step) (r q : List ℕ) → follows s ≡ 0 → judgement v d (exchange-step s) q ≡ judgement v d s r
-unfolding judgement
-judgement-exchange v d Constant r q e = absurd (omega (arith, e))
-judgement-exchange v d (One f) r q e = rw (le-ltb (length q) 0 (omega arith), le-ltb (length r) 0 (omega arith))
-judgement-exchange v d (Two g) r q e = rw (le-ltb (length q) 0 (omega arith), le-ltb (length r) 0 (omega arith))
-judgement-exchange v d Unknown r q e = refl
+  stepped-exchange : (s : Step) → is-plain s ≡ true → stepped k (exchange-step s) q (map exchange-tree ts) ≡ map exchange-tree (stepped k s r ts)
+  unfolding exchange-tree is-plain
+  stepped-exchange Constant e = cc
+  stepped-exchange (One f) e = go ts
+    where
+      go : (ts : List Expression) → stepped k (One f) q (map exchange-tree ts) ≡ map exchange-tree (stepped k (One f) r ts)
+      go [] = refl
+      go (a ∷ ts) = refl
+  stepped-exchange (Two g) e = go ts
+    where
+      go : (ts : List Expression) → stepped k (Two (dual-of g)) q (map exchange-tree ts) ≡ map exchange-tree (stepped k (Two g) r ts)
+      go [] = refl
+      go (b ∷ []) = refl
+      go (b ∷ a ∷ ts) = refl
 
-stepped-exchange : (k : ℕ) (s : Step) (r q : List ℕ) (ts : List Expression) → follows s ≡ 0
-    → stepped k (exchange-step s) q (map exchange-tree ts) ≡ map exchange-tree (stepped k s r ts)
-unfolding exchange-tree
-stepped-exchange k Constant r q ts e = absurd (omega (arith, e))
-stepped-exchange k (One f) r q [] e = refl
-stepped-exchange k (One f) r q (a ∷ ts) e = refl
-stepped-exchange k (Two g) r q [] e = refl
-stepped-exchange k (Two g) r q (b ∷ []) e = refl
-stepped-exchange k (Two g) r q (b ∷ a ∷ ts) e = refl
-stepped-exchange k Unknown r q ts e = refl
+  plain-follows : (s : Step) → is-plain s ≡ true → (follows s ≡ 0) × (follows (exchange-step s) ≡ 0)
+  unfolding is-plain
+  plain-follows Constant e = (cc, cc)
+  plain-follows (One f) e = (refl, refl)
+  plain-follows (Two g) e = (refl, refl)
+
+  -- a step other than a constant, where what follows it is exchanged
+  plain-exchange : (c : Code) → ((s : Step) → c ≡ Known s → is-plain s ≡ true)
+      → ((s : Step) → read v l (suc k) (map exchange-tree (stepped k s r ts)) q ≡ exchange-reading (read v l (suc k) (stepped k s r ts) r))
+      → after (at k (admitted v (length ts) (exchange-known c) q)) (λ s. read v l (suc k) (stepped k s q (map exchange-tree ts)) (drop (follows s) q))
+      ≡ exchange-reading (after (at k (admitted v (length ts) c r)) λ s. read v l (suc k) (stepped k s r ts) (drop (follows s) r))
+  unfolding admitted
+  plain-exchange Unknown plain ih = refl
+  plain-exchange (Known s) plain ih =
+      let p = plain s refl in
+      let f = plain-follows s p in
+      rw (judgement-exchange (length ts) s p) (unless-exchange (judgement v (length ts) s r) k s (exchange-step s) _ _ (rw (f .0, f .1, stepped-exchange s p) (ih s)))
 
 constant-exchange : (v n a b c d e f g h : ℕ) (r q : List ℕ)
     → judgement v n Constant (e ∷ f ∷ g ∷ h ∷ a ∷ b ∷ c ∷ d ∷ q) ≡ judgement v n Constant (a ∷ b ∷ c ∷ d ∷ e ∷ f ∷ g ∷ h ∷ r)
@@ -183,36 +228,23 @@ constant-exchange v n a b c d e f g h r q =
       dual-range (constant-in (a ∷ b ∷ c ∷ d ∷ e ∷ f ∷ g ∷ h ∷ r)),
     )
 
-unless-exchange : (j : Judgement) (k : ℕ) (p q : Reading) → p ≡ exchange-reading q → unless j k p ≡ exchange-reading (unless j k q)
-unless-exchange sound k p q e = e
-unless-exchange (cause n) k p q e = refl
-
 end-exchange : (k : ℕ) (ts : List Expression) → at-end k (map exchange-tree ts) ≡ exchange-reading (at-end k ts)
 end-exchange k [] = refl
 end-exchange k (t ∷ []) = refl
 end-exchange k (b ∷ a ∷ ts) = refl
 
--- a step other than a constant, where what follows it is exchanged
-free-exchange : (v l k : ℕ) (s : Step) (r q : List ℕ) (ts : List Expression) → follows s ≡ 0
-    → read v l (suc k) (map exchange-tree (stepped k s r ts)) q ≡ exchange-reading (read v l (suc k) (stepped k s r ts) r)
-    → unless (judgement v (length (map exchange-tree ts)) (exchange-step s) q) k (read v l (suc k) (stepped k (exchange-step s) q (map exchange-tree ts)) (drop (follows (exchange-step s)) q))
-    ≡ exchange-reading (unless (judgement v (length ts) s r) k (read v l (suc k) (stepped k s r ts) (drop (follows s) r)))
-free-exchange v l k s r q ts e ih =
-    rw (length-map ts exchange-tree, judgement-exchange v (length ts) s r q e, stepped-exchange k s r q ts e, follows-exchange s, e)
-    (unless-exchange (judgement v (length ts) s r) k _ _ ih)
-
 read-exchange : (v l k : ℕ) (ts : List Expression) (s : List ℕ) → read v l k (map exchange-tree ts) (exchange s) ≡ exchange-reading (read v l k ts s)
-unfolding read exchange-from step-of judgement constant-in exchange-tree
+unfolding read exchange-from code-of admitted judgement constant-in exchange-tree
 read-exchange v zero k ts [] = end-exchange k ts
 read-exchange v zero k ts (zero ∷ r) = refl
 read-exchange v zero k ts (suc c ∷ r) = refl
 read-exchange v (suc l) k ts [] = end-exchange k ts
 read-exchange v (suc l) k ts (suc c ∷ r) =
-    let e = code-exchange c in
-    rw (e .0) (free-exchange v l k (step-of (suc c)) r (exchange r) ts (e .1) (read-exchange v l (suc k) (stepped k (step-of (suc c)) r ts) r))
+    rw (length-map ts exchange-tree, code-exchange (suc c))
+    (plain-exchange v l k r (exchange r) ts (code-of (suc c)) (plain-code c) λ s. read-exchange v l (suc k) (stepped k s r ts) r)
 read-exchange v (suc l) k ts (zero ∷ a ∷ b ∷ c ∷ d ∷ e ∷ f ∷ g ∷ h ∷ r) =
     rw (length-map ts exchange-tree, constant-exchange v (length ts) a b c d e f g h r (exchange r))
-    (unless-exchange (judgement v (length ts) Constant (a ∷ b ∷ c ∷ d ∷ e ∷ f ∷ g ∷ h ∷ r)) k _ _
+    (unless-exchange (judgement v (length ts) Constant (a ∷ b ∷ c ∷ d ∷ e ∷ f ∷ g ∷ h ∷ r)) k Constant Constant _ _
     (read-exchange v l (suc k) (constant k (constant-in (a ∷ b ∷ c ∷ d ∷ e ∷ f ∷ g ∷ h ∷ r)) ∷ ts) r))
 read-exchange v (suc l) k ts (zero ∷ []) = refl
 read-exchange v (suc l) k ts (zero ∷ a ∷ []) = refl
@@ -228,6 +260,6 @@ pub answer-exchange : (v steps : ℕ) (w : Rounding) (s : List ℕ) → answer v
 unfolding answer
 answer-exchange v steps w s = rw (read-exchange v steps 0 [] s) (go (read v steps 0 [] s))
   where
-    go : (q : Reading) → result (other-way w) (exchange-reading q) ≡ exchanged (result w q)
-    go (whole t) = evaluated-exchange w t
-    go (refused n k) = refl
+    go : (q : Result Expression) → after (exchange-reading q) (evaluated (other-way w)) ≡ exchanged (after q (evaluated w))
+    go (value t) = evaluated-exchange w t
+    go (refusal n k) = refl

@@ -1,44 +1,35 @@
--- Document 01, "Lists of steps": the step of each code, what it takes and leaves, and the bytes of a constant. Assumes nothing.
+-- Document 01, "Lists of steps": the step of each code, what it takes and leaves, and the bytes of a constant.
 use mathlib.Core.Path.{_≡_, refl}
-use mathlib.Core.Bool.{Bool, true, false}
+use mathlib.Core.Bool.{Bool, false}
 use mathlib.Core.List.{List, [], _∷_, map}
 use Prim.Native.Nat.{ℕ, _+_, _*_}
 use lib.ListN.{getD}
 use mir.Syntax.{w32}
 use mir.Val.{toZ}
-use Rattle.directed.specs.declared.Interval.{Interval}
-use Rattle.directed.specs.Thousandths.{interval, beyond-range}
-use Rattle.lists.specs.declared.Unary.the-variants.{Negation, Opposite, Dual}
-use Rattle.lists.specs.declared.Binary.the-variants.{Sum, Difference, Product, Join, Meet}
+use Rattle.directed.specs.declared.Unary.the-variants.{Negation, Opposite, Dual}
+use Rattle.directed.specs.declared.Binary.the-variants.{Sum, Difference, Product, Join, Meet}
+use Rattle.directed.specs.Thousandths.{Pair, pair, beyond-range}
 use Rattle.lists.specs.declared.Step.{Step}
-use Rattle.lists.specs.declared.Step.the-variants.{Constant, One, Two, Unknown}
+use Rattle.lists.specs.declared.Step.the-variants.{Constant, One, Two}
+use Rattle.lists.specs.declared.Code.{Code}
+use Rattle.lists.specs.declared.Code.the-variants.{Known, Unknown}
 
 -- the table's second column, from code 0 on
 abbrev pub codes : List Step
 codes = Constant ∷ Two Sum ∷ Two Difference ∷ Two Product ∷ One Negation ∷ One Opposite ∷ One Dual ∷ Two Join ∷ Two Meet ∷ []
 
 -- a code behind the table's end is unknown
-unfoldable pub step-of : ℕ → Step
-step-of code = getD codes code Unknown
-
-abbrev pub is-unknown : Step → Bool
-is-unknown Constant = false
-is-unknown (One f) = false
-is-unknown (Two g) = false
-is-unknown Unknown = true
+unfoldable pub code-of : ℕ → Code
+code-of byte = getD (map Known codes) byte Unknown
 
 -- "Each code takes and leaves this many values"
 abbrev pub takes : Step → ℕ
 takes Constant = 0
 takes (One f) = 1
 takes (Two g) = 2
-takes Unknown = 0
 
 abbrev pub leaves : Step → ℕ
-leaves Constant = 1
-leaves (One f) = 1
-leaves (Two g) = 1
-leaves Unknown = 0
+leaves s = 1
 
 -- the table's third and fourth column, as 01 prints them
 pub table :
@@ -51,7 +42,6 @@ abbrev pub follows : Step → ℕ
 follows Constant = 8
 follows (One f) = 0
 follows (Two g) = 0
-follows Unknown = 0
 
 -- "low byte first"
 abbrev pub word : ℕ → ℕ → ℕ → ℕ → ℕ
@@ -61,12 +51,11 @@ abbrev pub word-at : List ℕ → ℕ → ℕ
 word-at s i = word (getD s i 0) (getD s (i + 1) 0) (getD s (i + 2) 0) (getD s (i + 3) 0)
 
 -- "l then u, 32-bit two's complement"
-unfoldable pub constant-in : List ℕ → Interval
-constant-in s = interval (toZ w32 (word-at s 0)) (toZ w32 (word-at s 4))
+unfoldable pub constant-in : List ℕ → Pair
+constant-in s = pair (toZ w32 (word-at s 0)) (toZ w32 (word-at s 4))
 
 -- 2: "a given end beyond the range"
 abbrev pub is-beyond : Step → List ℕ → Bool
 is-beyond Constant rest = beyond-range (constant-in rest)
 is-beyond (One f) rest = false
 is-beyond (Two g) rest = false
-is-beyond Unknown rest = false

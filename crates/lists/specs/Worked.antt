@@ -1,35 +1,80 @@
--- Document 01, "Values to meet", those marked *, whole: the table of the operations and the list's value, as one claim, computed from the
--- definitions; and cause 4 below a dual. Assumes nothing.
+-- Document 01, "Values to meet", those marked *, whole: one table with one claim, computed from the definitions, a value without a way in both. Ends
+-- are in thousandths. And cause 4 below a dual.
 use mathlib.Core.Path.{_≡_, refl}
 use mathlib.Core.List.{List, [], _∷_, _++_}
 use Prim.Native.Nat.{ℕ}
-use lib.IntN.{pos}
+use lib.IntN.{ℤ, pos, negℤ}
 use Rattle.integers.specs.Floor.{floor, floor-nat, ceiling}
+use Rattle.directed.specs.declared.Rounding.{Rounding}
 use Rattle.directed.specs.declared.Rounding.the-variants.{Outward, Inward}
-use Rattle.directed.specs.Fraction.{_*ᶠ_}
+use Rattle.directed.specs.declared.Binary.{Binary}
+use Rattle.directed.specs.declared.Binary.the-variants.{Difference, Product, Quotient}
+use Rattle.directed.specs.Fraction.{_+ᶠ_, _-ᶠ_, _*ᶠ_, over}
 use Rattle.directed.specs.Exact.{sort, direction, smaller, larger}
 use Rattle.directed.specs.Operations as operations
 use Rattle.directed.specs.Operations.{none-free}
-use Rattle.directed.specs.Thousandths.{interval, outside, beyond-range, round-down, round-up}
-use Rattle.directed.specs.Answer.{in-range}
-use Rattle.directed.specs.Worked.{worked}
-use Rattle.lists.specs.Steps.{step-of, constant-in}
-use Rattle.lists.specs.Lists.{value, refusal, judgement, read, unary, binary, evaluated, answer}
+use Rattle.directed.specs.Thousandths as thousandths
+use Rattle.directed.specs.Thousandths.{Pair, pair, dual, outside, beyond-range, round-down, round-up}
+use Rattle.directed.specs.Lift.{interval, faulty}
+use Rattle.directed.specs.Answer as answers
+use Rattle.directed.specs.Answer.{Outcome, binary, unjudged-unary, unjudged-binary, given, stop, divisor, in-range}
+use Rattle.directed.specs.Equation.{unjudged-equation, equation}
+use Rattle.lists.specs.Steps.{code-of, constant-in}
+use Rattle.lists.specs.Lists.{Result, value, refusal, judgement, admitted, read, evaluated, answer}
 
--- what a proof proves
-abbrev StatementOf : {A : Type 0} → A → Type 0
-StatementOf {A} a = A
+infix 8 +_ -_
+abbrev +_ : ℕ → ℤ
++ n = pos n
+
+abbrev -_ : ℕ → ℤ
+- n = negℤ (pos n)
+
+infix 9 ⟨_⋯_⟩
+abbrev ⟨_⋯_⟩ : ℤ → ℤ → Pair
+⟨ l ⋯ u ⟩ = pair l u
+
+-- an operation, the equation and a list in a way
+abbrev computed : Rounding → Binary → Pair → Pair → Outcome Pair
+computed rounding op a b = binary rounding op (interval a) (interval b)
+
+abbrev solved : Rounding → Pair → Pair → Pair → Outcome Pair
+solved rounding a c b = equation rounding (interval a) (interval c) (interval b)
+
+abbrev listed : Rounding → List ℕ → Result Pair
+listed rounding s = answer 16 64 rounding s
+
+-- the same in both ways
+abbrev In-both : (Rounding → Outcome Pair) → Pair → Type 0
+In-both answered p = (answered Outward ≡ answers.value p) × (answered Inward ≡ answers.value p)
 
 -- 1.001 is 1001 thousandths, 3 · 256 + 233
 abbrev step-1·001 : List ℕ
 step-1·001 = 0 ∷ 233 ∷ 3 ∷ 0 ∷ 0 ∷ 233 ∷ 3 ∷ 0 ∷ 0 ∷ []
 
--- the table, and: "Steps 1.001, 1.001, product, dual, outward: [1.002,1.003]."
-pub all-worked :
-    StatementOf worked
-    × (answer 16 64 Outward (step-1·001 ++ (step-1·001 ++ (3 ∷ 6 ∷ []))) ≡ value (interval (pos 1002) (pos 1003)))
-unfolding step-of constant-in judgement read unary binary evaluated answer in-range beyond-range outside round-down round-up floor floor-nat ceiling operations.product none-free sort direction smaller larger _*ᶠ_
-all-worked = (worked, refl)
+pub worked :
+    -- [1.001,1.001] times itself: outward [1.002,1.003], inward [1.003,1.002]
+    (computed Outward Product ⟨ + 1001 ⋯ + 1001 ⟩ ⟨ + 1001 ⋯ + 1001 ⟩ ≡ answers.value ⟨ + 1002 ⋯ + 1003 ⟩)
+    × (computed Inward Product ⟨ + 1001 ⋯ + 1001 ⟩ ⟨ + 1001 ⋯ + 1001 ⟩ ≡ answers.value ⟨ + 1003 ⋯ + 1002 ⟩)
+    -- [−1,2] × [−3,4] = [−6,8]; [2,−1] × [4,−3] = [8,−6]; [−1,2] × [4,−3] = [0,0]; [1,2] × [4,−3] = [4,−3]
+    × In-both (λ w. computed w Product ⟨ - 1000 ⋯ + 2000 ⟩ ⟨ - 3000 ⋯ + 4000 ⟩) ⟨ - 6000 ⋯ + 8000 ⟩
+    × In-both (λ w. computed w Product ⟨ + 2000 ⋯ - 1000 ⟩ ⟨ + 4000 ⋯ - 3000 ⟩) ⟨ + 8000 ⋯ - 6000 ⟩
+    × In-both (λ w. computed w Product ⟨ - 1000 ⋯ + 2000 ⟩ ⟨ + 4000 ⋯ - 3000 ⟩) ⟨ + 0 ⋯ + 0 ⟩
+    × In-both (λ w. computed w Product ⟨ + 1000 ⋯ + 2000 ⟩ ⟨ + 4000 ⋯ - 3000 ⟩) ⟨ + 4000 ⋯ - 3000 ⟩
+    -- [−0.001,−0.001] × [0.001,0.001]: outward [−0.001,0], inward [0,−0.001]
+    × (computed Outward Product ⟨ - 1 ⋯ - 1 ⟩ ⟨ + 1 ⋯ + 1 ⟩ ≡ answers.value ⟨ - 1 ⋯ + 0 ⟩)
+    × (computed Inward Product ⟨ - 1 ⋯ - 1 ⟩ ⟨ + 1 ⋯ + 1 ⟩ ≡ answers.value ⟨ + 0 ⋯ - 1 ⟩)
+    -- [−1,−1] / [3,3]: outward [−0.334,−0.333]
+    × (computed Outward Quotient ⟨ - 1000 ⋯ - 1000 ⟩ ⟨ + 3000 ⋯ + 3000 ⟩ ≡ answers.value ⟨ - 334 ⋯ - 333 ⟩)
+    -- a [0,0], c [2,4], b [6,8]: x [3,2]; b [−4,8] instead: x [−1,2]
+    × In-both (λ w. solved w ⟨ + 0 ⋯ + 0 ⟩ ⟨ + 2000 ⋯ + 4000 ⟩ ⟨ + 6000 ⋯ + 8000 ⟩) ⟨ + 3000 ⋯ + 2000 ⟩
+    × In-both (λ w. solved w ⟨ + 0 ⋯ + 0 ⟩ ⟨ + 2000 ⋯ + 4000 ⟩ ⟨ - 4000 ⋯ + 8000 ⟩) ⟨ - 1000 ⋯ + 2000 ⟩
+    -- [2,5] minus its dual: [0,0]
+    × In-both (λ w. computed w Difference ⟨ + 2000 ⋯ + 5000 ⟩ (dual ⟨ + 2000 ⋯ + 5000 ⟩)) ⟨ + 0 ⋯ + 0 ⟩
+    -- Steps 1.001, 1.001, product, dual, outward: [1.002,1.003]; inward then [1.003,1.002]
+    × (listed Outward (step-1·001 ++ (step-1·001 ++ (3 ∷ 6 ∷ []))) ≡ value ⟨ + 1002 ⋯ + 1003 ⟩)
+    × (listed Inward (step-1·001 ++ (step-1·001 ++ (3 ∷ 6 ∷ []))) ≡ value ⟨ + 1003 ⋯ + 1002 ⟩)
+unfolding code-of constant-in judgement admitted read evaluated answer binary equation unjudged-unary unjudged-binary unjudged-equation thousandths.unary given faulty stop divisor in-range none-free operations.product operations.binary sort direction smaller larger outside beyond-range round-down round-up floor floor-nat ceiling _+ᶠ_ _-ᶠ_ _*ᶠ_ over
+worked = (refl, refl, (refl, refl), (refl, refl), (refl, refl), (refl, refl), refl, refl, refl, (refl, refl), (refl, refl), (refl, refl), refl, refl)
 
 -- [0,1.001] times [0,1998001.999] is [0,2000000.000999]: outward its upper end leaves the range, inward it does not
 abbrev wide-product-dual : List ℕ
@@ -37,7 +82,7 @@ wide-product-dual = 0 ∷ 0 ∷ 0 ∷ 0 ∷ 0 ∷ 233 ∷ 3 ∷ 0 ∷ 0 ∷ 0 �
 
 -- "Cause 4 is judged on each step's value in the way it is wanted, and on no other value."
 pub wanted-only :
-    (answer 16 64 Outward wide-product-dual ≡ value (interval (pos 2000000000) (pos 0)))
-    × (answer 16 64 Inward wide-product-dual ≡ refusal 4 2)
-unfolding step-of constant-in judgement read unary binary evaluated answer in-range beyond-range outside round-down round-up floor floor-nat ceiling operations.product none-free sort direction smaller larger _*ᶠ_
+    (listed Outward wide-product-dual ≡ value ⟨ + 2000000000 ⋯ + 0 ⟩)
+    × (listed Inward wide-product-dual ≡ refusal 4 2)
+unfolding code-of constant-in judgement admitted read evaluated answer unjudged-unary unjudged-binary thousandths.unary stop in-range none-free operations.product operations.binary sort direction smaller larger outside beyond-range round-down round-up floor floor-nat ceiling _*ᶠ_
 wanted-only = (refl, refl)
