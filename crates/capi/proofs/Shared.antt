@@ -1,5 +1,5 @@
--- What a call leaves, by the answer that it gives. Assumes nothing.
-use mathlib.Core.Path.{_≡_, ap}
+-- What a call leaves, by the answer that it gives.
+use mathlib.Core.Path.{_≡_}
 use mathlib.Core.List.{List}
 use Prim.Native.Nat.{ℕ}
 use lib.IntN.{ℤ}
@@ -7,18 +7,21 @@ use mir.Syntax.{w32}
 use mir.Val.{SFits, toZ, ofZ}
 use mir.Facts.{toZ-ofZ}
 use Rattle.directed.specs.declared.Interval.{Interval}
-use Rattle.directed.specs.Thousandths.{interval}
-use Rattle.directed.specs.Answer.{Outcome}
+use Rattle.directed.specs.Thousandths.{Pair, pair}
+use Rattle.directed.specs.Lift.{interval}
+use Rattle.directed.specs.Answer as answers
+use Rattle.directed.specs.Answer.{Outcome, built}
+use Rattle.lists.specs.Lists as results
 use Rattle.lists.specs.Lists.{Result, value, refusal}
 use Rattle.text.specs.Answer.{Told, length-told, refusal-told, Writing}
-use Rattle.capi.specs.Effect.{Effect, effect, done, effect-of, stepless, with-step, length-effect, length-effect-of, writing-effect, writing-effect-of}
+use Rattle.capi.specs.Effect.{Effect, effect, done, paired, paired-result, effect-of, stepless, with-step, length-effect, length-effect-of, writing-effect, writing-effect-of}
 
 -- an interval made of two numbers that are given
-pub made : {a : Interval} {l u : ℤ} → SFits w32 l → SFits w32 u → a ≡ interval (toZ w32 (ofZ w32 l)) (toZ w32 (ofZ w32 u)) → a ≡ interval l u
+pub made : {a : Interval} {l u : ℤ} → SFits w32 l → SFits w32 u → a ≡ interval (pair (toZ w32 (ofZ w32 l)) (toZ w32 (ofZ w32 u))) → a ≡ interval (pair l u)
 made fits-l fits-u p = rw (toZ-ofZ fits-l, toZ-ofZ fits-u) at p
 
-module _ (before : List ℤ) {o : Result} where
-  pub effect-value : {a : Interval} {e : Effect} → o ≡ value a → e ≡ done a → e ≡ effect-of o before
+module _ (before : List ℤ) {o : Result Pair} where
+  pub effect-value : {a : Pair} {e : Effect} → o ≡ value a → e ≡ done a → e ≡ effect-of o before
   unfolding effect-of
   effect-value p q = rw p q
 
@@ -26,11 +29,14 @@ module _ (before : List ℤ) {o : Result} where
   unfolding effect-of
   effect-refusal p q = rw (p, q)
 
-  pub effect-same : {p : Result} {e : Effect} → e ≡ effect-of o before → o ≡ p → e ≡ effect-of p before
-  effect-same given same = rw same at given
+-- what a function hands out has the pair that it was built of
+pub effect-same : (before : List ℤ) (o : Result Pair) {r : Result Interval} {e : Effect} → e ≡ effect-of (paired-result r) before → r ≡ results.built o → e ≡ effect-of o before
+effect-same before (value p) given same = rw same at given
+effect-same before (refusal n k) given same = rw same at given
 
-pub stepless-same : (before : List ℤ) {o p : Outcome} {e : Effect} → e ≡ effect-of (stepless o) before → o ≡ p → e ≡ effect-of (stepless p) before
-stepless-same before given same = effect-same before given (ap stepless same)
+pub stepless-same : (before : List ℤ) (o : Outcome Pair) {r : Outcome Interval} {e : Effect} → e ≡ effect-of (stepless (paired r)) before → r ≡ built o → e ≡ effect-of (stepless o) before
+stepless-same before (answers.value p) given same = rw same at given
+stepless-same before (answers.refusal n) given same = rw same at given
 
 module _ (before : ℕ) {t : Told} where
   pub length-effect-told : {n : ℕ} → t ≡ length-told n → length-effect 0 n ≡ length-effect-of t before

@@ -1,4 +1,4 @@
--- What a call from C or Rust leaves: the number that it returns, and what stands at exit in the places that the caller lends. Assumes nothing.
+-- What a call from C or Rust leaves: the number that it returns, and what stands at exit in the places that the caller lends.
 use mathlib.Core.Bool.{Bool, true, false}
 use mathlib.Core.List.{List, [], _∷_}
 use Prim.Native.Nat.{ℕ, _+_, _*_}
@@ -6,7 +6,10 @@ use lib.IntN.{ℤ}
 use Rattle.directed.specs.declared.Interval.{Interval}
 use Rattle.directed.specs.declared.Rounding.{Rounding}
 use Rattle.directed.specs.declared.Rounding.the-variants.{Outward, Inward}
+use Rattle.directed.specs.Answer as answers
 use Rattle.directed.specs.Answer.{Outcome}
+use Rattle.directed.specs.Lift.{pair-of}
+use Rattle.directed.specs.Thousandths.{Pair}
 use Rattle.lists.specs.Lists.{Result, value, refusal, at}
 use Rattle.text.specs.Answer.{Told, length-told, refusal-told, Writing}
 
@@ -23,7 +26,7 @@ pub record Effect : Type 0 where
 abbrev pub effect : ℕ → List ℤ → Effect
 effect n ends = record { returned = n; result = ends }
 
-abbrev pub done : Interval → Effect
+abbrev pub done : Pair → Effect
 done a = effect 0 (a .lower ∷ a .upper ∷ [])
 
 -- "number; in a list also the step": both in the returned number, so that a refused list, too, leaves every lent byte as it was
@@ -32,13 +35,22 @@ with-step number step = number + 256 * step
 
 -- A value goes to the lent ends, lower then upper, and 0 is returned. "a refusal alters no byte of theirs": its number is returned with its step,
 -- and the lent ends stay as they were.
-unfoldable pub effect-of : Result → List ℤ → Effect
+unfoldable pub effect-of : Result Pair → List ℤ → Effect
 effect-of (value a) before = done a
 effect-of (refusal k step) before = effect (with-step k step) before
 
 -- where there are no steps, step 0
-abbrev pub stepless : Outcome → Result
+abbrev pub stepless : Outcome Pair → Result Pair
 stepless o = at 0 o
+
+-- of what is in memory, its pair
+abbrev pub paired : Outcome Interval → Outcome Pair
+paired (answers.value a) = answers.value (pair-of a)
+paired (answers.refusal n) = answers.refusal n
+
+abbrev pub paired-result : Result Interval → Result Pair
+paired-result (value a) = value (pair-of a)
+paired-result (refusal n k) = refusal n k
 
 -- Writing a text: its length goes to a lent number of its own.
 pub record LengthEffect : Type 0 where

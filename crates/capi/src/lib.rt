@@ -2,17 +2,23 @@
 // leaves, refusals included, is defined once, in specs/Effect.antt.
 ghost use mathlib.Core.Path.{_≡_};
 ghost use Prim.Native.Nat.{ℕ, _≤_};
-ghost use Rattle.directed.specs.Thousandths.{interval};
+ghost use mathlib.Core.Bool.{false};
+ghost use Rattle.directed.specs.Thousandths.{pair};
+ghost use Rattle.directed.specs.Lift.{interval, pair-of};
+ghost use Rattle.directed.specs.declared.Unary.the-variants as unary;
+ghost use Rattle.directed.specs.declared.Binary.the-variants as binary;
 ghost use Rattle.directed.specs.Answer as answer;
 ghost use Rattle.directed.specs.Answer.{outcome};
 ghost use Rattle.directed.specs.Equation as meaning;
 ghost use Rattle.text.specs.Answer.{told, read, write};
 ghost use Rattle.lists.specs.Lists as list;
 ghost use Rattle.lines.specs.Line as line;
-ghost use Rattle.capi.specs.Effect.{way, effect, done, effect-of, stepless, length-effect, length-effect-of, writing-effect, writing-effect-of};
+ghost use Rattle.capi.specs.Effect.{way, effect, done, paired, paired-result, effect-of, stepless, length-effect, length-effect-of, writing-effect, writing-effect-of};
 use directed::Answer;
+use directed::Binary;
 use directed::Interval;
 use directed::Rounding;
+use directed::Unary;
 use lists::ListAnswer;
 use text::Written;
 
@@ -27,7 +33,7 @@ fn rounding(inward: bool) -> Rounding
 }
 
 fn put(a: Interval, result: &mut [i32; 2]) -> u32
-    ensures { λ r. ⌜ effect r (now (result .exit)) ≡ done a ⌝ }
+    ensures { λ r. ⌜ effect r (now (result .exit)) ≡ done (pair-of a) ⌝ }
 {
     let lower = a.lower;
     let upper = a.upper;
@@ -37,7 +43,7 @@ fn put(a: Interval, result: &mut [i32; 2]) -> u32
 
 // A value goes to the lent ends; a refusal leaves them as they are.
 fn give(answer: Answer, result: &mut [i32; 2]) -> u32
-    ensures { λ r. ⌜ effect r (now (result .exit)) ≡ effect-of (stepless (outcome answer)) (now (result .entry)) ⌝ }
+    ensures { λ r. ⌜ effect r (now (result .exit)) ≡ effect-of (stepless (paired (outcome answer))) (now (result .entry)) ⌝ }
 {
     match answer {
         Answer::Value(a) => put(a, result),
@@ -47,43 +53,54 @@ fn give(answer: Answer, result: &mut [i32; 2]) -> u32
 
 // ---- the operations and the equation: causes 2, 5, 4. The ends of a are al and au, those of b and c named likewise.
 
+fn one(op: Unary, lower: i32, upper: i32, result: &mut [i32; 2]) -> u32
+    ensures { λ r. ⌜ effect r (now (result .exit)) ≡ effect-of (stepless (answer.unary op (interval (pair lower upper)))) (now (result .entry)) ⌝ }
+{
+    give(arithmetic::unary(op, Interval::new(lower, upper)), result)
+}
+
+fn two(op: Binary, al: i32, au: i32, bl: i32, bu: i32, inward: bool, result: &mut [i32; 2]) -> u32
+    ensures { λ r. ⌜ effect r (now (result .exit)) ≡ effect-of (stepless (answer.binary (way inward) op (interval (pair al au)) (interval (pair bl bu)))) (now (result .entry)) ⌝ }
+{
+    let a = Interval::new(al, au);
+    let b = Interval::new(bl, bu);
+    give(arithmetic::binary(op, a, b, rounding(inward)), result)
+}
+
 #[no_mangle]
 pub extern "C" fn dzb_negation(lower: i32, upper: i32, result: &mut [i32; 2]) -> u32
-    ensures { λ r. ⌜ effect r (now (result .exit)) ≡ effect-of (stepless (answer.negation (interval lower upper))) (now (result .entry)) ⌝ }
+    ensures { λ r. ⌜ effect r (now (result .exit)) ≡ effect-of (stepless (answer.unary unary.Negation (interval (pair lower upper)))) (now (result .entry)) ⌝ }
 {
-    give(arithmetic::negation(Interval::new(lower, upper)), result)
+    one(Unary::Negation, lower, upper, result)
 }
 
 #[no_mangle]
 pub extern "C" fn dzb_opposite(lower: i32, upper: i32, result: &mut [i32; 2]) -> u32
-    ensures { λ r. ⌜ effect r (now (result .exit)) ≡ effect-of (stepless (answer.opposite (interval lower upper))) (now (result .entry)) ⌝ }
+    ensures { λ r. ⌜ effect r (now (result .exit)) ≡ effect-of (stepless (answer.unary unary.Opposite (interval (pair lower upper)))) (now (result .entry)) ⌝ }
 {
-    give(arithmetic::opposite(Interval::new(lower, upper)), result)
+    one(Unary::Opposite, lower, upper, result)
 }
 
 #[no_mangle]
 pub extern "C" fn dzb_dual(lower: i32, upper: i32, result: &mut [i32; 2]) -> u32
-    ensures { λ r. ⌜ effect r (now (result .exit)) ≡ effect-of (stepless (answer.dual (interval lower upper))) (now (result .entry)) ⌝ }
+    ensures { λ r. ⌜ effect r (now (result .exit)) ≡ effect-of (stepless (answer.unary unary.Dual (interval (pair lower upper)))) (now (result .entry)) ⌝ }
 {
-    give(arithmetic::dual(Interval::new(lower, upper)), result)
+    one(Unary::Dual, lower, upper, result)
 }
 
+// A join and a meet round nothing, so they take no way.
 #[no_mangle]
 pub extern "C" fn dzb_join(al: i32, au: i32, bl: i32, bu: i32, result: &mut [i32; 2]) -> u32
-    ensures { λ r. ⌜ effect r (now (result .exit)) ≡ effect-of (stepless (answer.join (interval al au) (interval bl bu))) (now (result .entry)) ⌝ }
+    ensures { λ r. ⌜ effect r (now (result .exit)) ≡ effect-of (stepless (answer.binary (way false) binary.Join (interval (pair al au)) (interval (pair bl bu)))) (now (result .entry)) ⌝ }
 {
-    let a = Interval::new(al, au);
-    let b = Interval::new(bl, bu);
-    give(arithmetic::join(a, b), result)
+    two(Binary::Join, al, au, bl, bu, false, result)
 }
 
 #[no_mangle]
 pub extern "C" fn dzb_meet(al: i32, au: i32, bl: i32, bu: i32, result: &mut [i32; 2]) -> u32
-    ensures { λ r. ⌜ effect r (now (result .exit)) ≡ effect-of (stepless (answer.meet (interval al au) (interval bl bu))) (now (result .entry)) ⌝ }
+    ensures { λ r. ⌜ effect r (now (result .exit)) ≡ effect-of (stepless (answer.binary (way false) binary.Meet (interval (pair al au)) (interval (pair bl bu)))) (now (result .entry)) ⌝ }
 {
-    let a = Interval::new(al, au);
-    let b = Interval::new(bl, bu);
-    give(arithmetic::meet(a, b), result)
+    two(Binary::Meet, al, au, bl, bu, false, result)
 }
 
 #[no_mangle]
@@ -95,11 +112,9 @@ pub extern "C" fn dzb_sum(
     inward: bool,
     result: &mut [i32; 2],
 ) -> u32
-    ensures { λ r. ⌜ effect r (now (result .exit)) ≡ effect-of (stepless (answer.sum (way inward) (interval al au) (interval bl bu))) (now (result .entry)) ⌝ }
+    ensures { λ r. ⌜ effect r (now (result .exit)) ≡ effect-of (stepless (answer.binary (way inward) binary.Sum (interval (pair al au)) (interval (pair bl bu)))) (now (result .entry)) ⌝ }
 {
-    let a = Interval::new(al, au);
-    let b = Interval::new(bl, bu);
-    give(arithmetic::sum(a, b, rounding(inward)), result)
+    two(Binary::Sum, al, au, bl, bu, inward, result)
 }
 
 #[no_mangle]
@@ -111,11 +126,9 @@ pub extern "C" fn dzb_difference(
     inward: bool,
     result: &mut [i32; 2],
 ) -> u32
-    ensures { λ r. ⌜ effect r (now (result .exit)) ≡ effect-of (stepless (answer.difference (way inward) (interval al au) (interval bl bu))) (now (result .entry)) ⌝ }
+    ensures { λ r. ⌜ effect r (now (result .exit)) ≡ effect-of (stepless (answer.binary (way inward) binary.Difference (interval (pair al au)) (interval (pair bl bu)))) (now (result .entry)) ⌝ }
 {
-    let a = Interval::new(al, au);
-    let b = Interval::new(bl, bu);
-    give(arithmetic::difference(a, b, rounding(inward)), result)
+    two(Binary::Difference, al, au, bl, bu, inward, result)
 }
 
 #[no_mangle]
@@ -127,11 +140,9 @@ pub extern "C" fn dzb_product(
     inward: bool,
     result: &mut [i32; 2],
 ) -> u32
-    ensures { λ r. ⌜ effect r (now (result .exit)) ≡ effect-of (stepless (answer.product (way inward) (interval al au) (interval bl bu))) (now (result .entry)) ⌝ }
+    ensures { λ r. ⌜ effect r (now (result .exit)) ≡ effect-of (stepless (answer.binary (way inward) binary.Product (interval (pair al au)) (interval (pair bl bu)))) (now (result .entry)) ⌝ }
 {
-    let a = Interval::new(al, au);
-    let b = Interval::new(bl, bu);
-    give(arithmetic::product(a, b, rounding(inward)), result)
+    two(Binary::Product, al, au, bl, bu, inward, result)
 }
 
 #[no_mangle]
@@ -143,11 +154,9 @@ pub extern "C" fn dzb_quotient(
     inward: bool,
     result: &mut [i32; 2],
 ) -> u32
-    ensures { λ r. ⌜ effect r (now (result .exit)) ≡ effect-of (stepless (answer.quotient (way inward) (interval al au) (interval bl bu))) (now (result .entry)) ⌝ }
+    ensures { λ r. ⌜ effect r (now (result .exit)) ≡ effect-of (stepless (answer.binary (way inward) binary.Quotient (interval (pair al au)) (interval (pair bl bu)))) (now (result .entry)) ⌝ }
 {
-    let a = Interval::new(al, au);
-    let b = Interval::new(bl, bu);
-    give(arithmetic::quotient(a, b, rounding(inward)), result)
+    two(Binary::Quotient, al, au, bl, bu, inward, result)
 }
 
 // The x of a + c × x = b.
@@ -162,7 +171,7 @@ pub extern "C" fn dzb_equation(
     inward: bool,
     result: &mut [i32; 2],
 ) -> u32
-    ensures { λ r. ⌜ effect r (now (result .exit)) ≡ effect-of (stepless (meaning.equation (way inward) (interval al au) (interval cl cu) (interval bl bu))) (now (result .entry)) ⌝ }
+    ensures { λ r. ⌜ effect r (now (result .exit)) ≡ effect-of (stepless (meaning.equation (way inward) (interval (pair al au)) (interval (pair cl cu)) (interval (pair bl bu)))) (now (result .entry)) ⌝ }
 {
     let a = Interval::new(al, au);
     let c = Interval::new(cl, cu);
@@ -195,7 +204,7 @@ fn give_length(answer: Written, length: &mut usize) -> u32
 // Causes 2, 3.
 #[no_mangle]
 pub extern "C" fn dzb_write(lower: i32, upper: i32, buffer: &mut [u8], length: &mut usize) -> u32
-    ensures { λ r. ⌜ writing-effect r (now (length .exit)) (now (buffer .exit)) ≡ writing-effect-of (write (interval lower upper) (now (buffer .entry))) (now (length .entry)) ⌝ }
+    ensures { λ r. ⌜ writing-effect r (now (length .exit)) (now (buffer .exit)) ≡ writing-effect-of (write (interval (pair lower upper)) (now (buffer .entry))) (now (length .entry)) ⌝ }
 {
     let answer = text::write(Interval::new(lower, upper), buffer);
     give_length(answer, length)
@@ -205,7 +214,7 @@ pub extern "C" fn dzb_write(lower: i32, upper: i32, buffer: &mut [u8], length: &
 
 fn give_list(answer: ListAnswer, result: &mut [i32; 2]) -> u32
     requires { ⌜ ((n k : ℕ) → list.outcome answer ≡ list.refusal n k → k ≤ 64) ⌝ }
-    ensures { λ r. ⌜ effect r (now (result .exit)) ≡ effect-of (list.outcome answer) (now (result .entry)) ⌝ }
+    ensures { λ r. ⌜ effect r (now (result .exit)) ≡ effect-of (paired-result (list.outcome answer)) (now (result .entry)) ⌝ }
 {
     match answer {
         ListAnswer::Value(a) => put(a, result),

@@ -1,4 +1,4 @@
--- `capi::dzb_equation` gives the answer of `arithmetic::equation`. Assumes nothing.
+-- `capi::dzb_equation` gives the answer of `arithmetic::equation`.
 use borrow.Author.Needs.{needs}
 use Rattle.capi.proofs.Shared.{made, stepless-same}
 use Rattle.capi.proofs.dzb_equation.Statement.{statement}
@@ -9,9 +9,7 @@ returns c =
     let called = c .before .before in
     let intervals = called .before .before in
     let start = intervals .before .before .before in
-    stepless-same
-    _
-    (c .give .ensures)
+    stepless-same _ _ (c .give .ensures)
     (rw (called .before .rounding .ensures, made (start .fits .al) (start .fits .au) (intervals .before .before .new .ensures), made (start .fits .cl) (start .fits .cu) (intervals .before .new2 .ensures), made (start .fits .bl) (start .fits .bu) (intervals .new3 .ensures)) at (called .equation .ensures))
 
 pub dzb-equation-spec : {M : Type 1} → statement M

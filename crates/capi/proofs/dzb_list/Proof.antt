@@ -1,4 +1,4 @@
--- `capi::dzb_list` gives the answer of `engine::evaluate`, whose steps are at most 64. Assumes nothing.
+-- `capi::dzb_list` gives the answer of `engine::evaluate`, whose steps are at most 64.
 use borrow.Author.Needs.{needs}
 use mathlib.Core.Path.{sym, _∙_}
 use Rattle.capi.specs.StepLaws.{step-within}

@@ -1,4 +1,4 @@
--- `capi::dzb_write` gives the answer of `text::write`, which has filled the lent buffer. Assumes nothing.
+-- `capi::dzb_write` gives the answer of `text::write`, which has filled the lent buffer.
 use borrow.Author.Needs.{needs}
 use Rattle.capi.proofs.Shared.{made, writing-effect-same}
 use Rattle.capi.proofs.dzb_write.Statement.{statement}

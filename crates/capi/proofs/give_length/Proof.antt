@@ -1,4 +1,4 @@
--- `capi::give_length` meets its contract. Assumes nothing.
+-- `capi::give_length` meets its contract.
 use borrow.Author.Needs.{needs}
 use mathlib.Core.Path.{ap}
 use Rattle.text.specs.Answer.{told}

@@ -1,9 +1,11 @@
--- `capi::give_list` meets its contract. Assumes nothing.
+-- `capi::give_list` meets its contract.
 use borrow.Author.Needs.{needs}
 use mathlib.Core.Path.{ap}
 use Prim.Native.Nat.{_≤_}
 use native.Mathlib.Omega.{arith}
 use Rattle.lists.specs.Lists.{outcome}
+use Rattle.lists.specs.declared.ListAnswer.{ListAnswer}
+use Rattle.capi.specs.Effect.{paired-result}
 use Rattle.capi.proofs.Shared.{effect-value, effect-refusal}
 use Rattle.capi.proofs.give_list.Statement.{statement}
 use Rattle.capi.proofs.give_list.Tie as tie
@@ -22,10 +24,10 @@ add-result : tie.Need-add-result
 add-result c = omega (arith, step-within c)
 
 returns : tie.Need-returns
-returns c = effect-value _ (ap outcome (c .before .before .before .answer .given .1)) (c .put .ensures)
+returns c = effect-value _ (ap (λ (a : ListAnswer). paired-result (outcome a)) (c .before .before .before .answer .given .1)) (c .put .ensures)
 
 returns-2 : tie.Need-returns-2
-returns-2 c = effect-refusal _ (ap outcome (c .before .before .answer2 .given .1)) (rw (c .number .ensures))
+returns-2 c = effect-refusal _ (ap (λ (a : ListAnswer). paired-result (outcome a)) (c .before .before .answer2 .given .1)) (rw (c .number .ensures))
 
 pub give-list-spec : {M : Type 1} → statement M
 give-list-spec =
