@@ -1,4 +1,4 @@
--- The program of an expression, and of those that wait; and what its run gives. Assumes nothing.
+-- The program of an expression, and of those that wait; and what its run gives.
 use mathlib.Core.Path.{_≡_, refl, ap, _∙_}
 use mathlib.Core.Bool.{Bool, true, false, not}
 use mathlib.Core.List.{List, [], _∷_, _++_, append-assoc, append-nil}
@@ -6,20 +6,24 @@ use Prim.Native.Nat.{ℕ, suc, _+_, _-_, _≤_}
 use native.Mathlib.Omega.{arith}
 use native.Mathlib.Numerals.{add-one}
 use lib.ListN.{length, length-append}
-use Rattle.directed.specs.Thousandths.{other-way}
+use Rattle.directed.specs.Thousandths.{Pair, other-way, under}
+use Rattle.directed.specs.Answer as answers
+use Rattle.directed.specs.Answer.{unjudged-unary, unjudged-binary}
+use Rattle.directed.specs.Lift.{interval}
 use Rattle.directed.specs.declared.Interval.{Interval}
 use Rattle.directed.specs.declared.Rounding.{Rounding}
 use Rattle.directed.specs.declared.Rounding.the-variants.{Outward, Inward}
 use Rattle.directed.specs.Choice.{if_then_else_}
-use Rattle.lists.specs.declared.Unary.{Unary}
-use Rattle.lists.specs.declared.Unary.the-variants.{Negation, Opposite, Dual}
-use Rattle.lists.specs.declared.Binary.{Binary}
+use Rattle.directed.specs.declared.Unary.{Unary}
+use Rattle.directed.specs.declared.Unary.the-variants.{Negation, Opposite, Dual}
+use Rattle.directed.specs.declared.Binary.{Binary}
 use Rattle.lists.specs.declared.Step.{Step}
-use Rattle.lists.specs.declared.Step.the-variants.{Constant, One, Two, Unknown}
-use Rattle.lists.specs.Steps.{takes, is-unknown}
-use Rattle.lists.specs.Lists.{Result, value, refusal, Expression, constant, one, two, stepped, under, unary, binary, at, after, evaluated}
+use Rattle.lists.specs.declared.Step.the-variants.{Constant, One, Two}
+use Rattle.lists.specs.Steps.{takes}
+use Rattle.lists.specs.Ways.{turning}
+use Rattle.lists.specs.Lists.{built, Result, value, refusal, Expression, constant, one, two, stepped, at, after, evaluated}
 use Rattle.engine.specs.declared.program.Instruction.{Instruction}
-use Rattle.engine.specs.Program.{Code, code, instruction, no-constant, turning, turned-at, added}
+use Rattle.engine.specs.Program.{Draft, draft, instruction, no-constant, turned-at, added}
 use Rattle.engine.specs.Machine.{way-after, ran, Fits, end, step}
 
 -- ---- the program of an expression
@@ -29,7 +33,7 @@ size (one k f a) = size a + 1
 size (two k g a b) = size a + (size b + 1)
 
 unfoldable pub flat : Expression → List Instruction
-flat (constant k p) = instruction Constant p ∷ []
+flat (constant k p) = instruction Constant (interval p) ∷ []
 flat (one k f a) = flat a ++ (instruction (One f) no-constant ∷ [])
 flat (two k g a b) = flat a ++ (flat b ++ (instruction (Two g) no-constant ∷ []))
 
@@ -59,8 +63,8 @@ abbrev pub all-starts : List Expression → List ℕ
 all-starts [] = []
 all-starts (t ∷ ts) = all-size ts ∷ all-starts ts
 
-abbrev pub compiled : List Expression → Code
-compiled ts = code (all-size ts) (all-flat ts) (all-turns ts) (all-starts ts)
+abbrev pub compiled : List Expression → Draft
+compiled ts = draft (all-size ts) (all-flat ts) (all-turns ts) (all-starts ts)
 
 pub starts-length : (ts : List Expression) → length (all-starts ts) ≡ length ts
 starts-length [] = refl
@@ -101,12 +105,12 @@ turned-seam : (ts : List Expression) (b : Bool) (ys : List Bool)
 turned-seam ts true ys = rw (← all-turns-length ts) (turned-first (all-turns ts) ys)
 turned-seam ts false ys = refl
 
-pub added-compiled : (k : ℕ) (s : Step) (r : List ℕ) (ts : List Expression) → is-unknown s ≡ false → takes s ≤ length ts
+pub added-compiled : (k : ℕ) (s : Step) (r : List ℕ) (ts : List Expression) → takes s ≤ length ts
     → added s r (compiled ts) ≡ compiled (stepped k s r ts)
 unfolding size flat turns
-added-compiled k Constant r ts u h = refl
-added-compiled k (One f) r [] u h = absurd (omega arith)
-added-compiled k (One f) r (a ∷ ts) u h =
+added-compiled k Constant r ts h = refl
+added-compiled k (One f) r [] h = absurd (omega arith)
+added-compiled k (One f) r (a ∷ ts) h =
     let e : all-size ts + size a + 1 ≡ all-size ts + (size a + 1) = omega arith in
     rw (
       e,
@@ -114,12 +118,11 @@ added-compiled k (One f) r (a ∷ ts) u h =
       turned-seam ts (turning f) (turns a),
       append-assoc (all-turns ts) (if turning f then turn-first (turns a) else turns a),
     )
-added-compiled k (Two g) r [] u h = absurd (omega arith)
-added-compiled k (Two g) r (b ∷ []) u h = absurd (omega arith)
-added-compiled k (Two g) r (b ∷ a ∷ ts) u h =
+added-compiled k (Two g) r [] h = absurd (omega arith)
+added-compiled k (Two g) r (b ∷ []) h = absurd (omega arith)
+added-compiled k (Two g) r (b ∷ a ∷ ts) h =
     let e : all-size ts + size a + size b + 1 ≡ all-size ts + (size a + (size b + 1)) = omega arith in
     rw e (simp append-assoc)
-added-compiled k Unknown r ts u h = let z : _≡_ {A = ℕ} 0 1 = cc in absurd (omega arith)
 
 -- ---- the steps' numbers
 abbrev pub Numbered : ℕ → Expression → Type 0
@@ -131,15 +134,14 @@ abbrev pub AllNumbered : List Expression → Type 0
 AllNumbered [] = Unit {0}
 AllNumbered (t ∷ ts) = Numbered (all-size ts) t × AllNumbered ts
 
-pub numbered-stepped : (k : ℕ) (s : Step) (r : List ℕ) (ts : List Expression) → k ≡ all-size ts → is-unknown s ≡ false → takes s ≤ length ts
+pub numbered-stepped : (k : ℕ) (s : Step) (r : List ℕ) (ts : List Expression) → k ≡ all-size ts → takes s ≤ length ts
     → AllNumbered ts → AllNumbered (stepped k s r ts)
-numbered-stepped k Constant r ts e u h n = (e, n)
-numbered-stepped k (One f) r [] e u h n = absurd (omega arith)
-numbered-stepped k (One f) r (a ∷ ts) e u h n = ((n .0, e), n .1)
-numbered-stepped k (Two g) r [] e u h n = absurd (omega arith)
-numbered-stepped k (Two g) r (b ∷ []) e u h n = absurd (omega arith)
-numbered-stepped k (Two g) r (b ∷ a ∷ ts) e u h n = ((n .1 .0, n .0, e), n .1 .1)
-numbered-stepped k Unknown r ts e u h n = let z : _≡_ {A = ℕ} 0 1 = cc in absurd (omega arith)
+numbered-stepped k Constant r ts e h n = (e, n)
+numbered-stepped k (One f) r [] e h n = absurd (omega arith)
+numbered-stepped k (One f) r (a ∷ ts) e h n = ((n .0, e), n .1)
+numbered-stepped k (Two g) r [] e h n = absurd (omega arith)
+numbered-stepped k (Two g) r (b ∷ []) e h n = absurd (omega arith)
+numbered-stepped k (Two g) r (b ∷ a ∷ ts) e h n = ((n .1 .0, n .0, e), n .1 .1)
 
 -- ---- a step more fits
 pub fits-more : (v d e : ℕ) (is : List Instruction) (i : Instruction) → Fits v d is e → takes (i .step) ≤ e → e - takes (i .step) + 1 ≤ v
@@ -178,11 +180,11 @@ way-back true Outward = refl
 way-back true Inward = refl
 way-back false w = refl
 
-after-cong : (r : Result) (f g : Interval → Result) → ((x : Interval) → f x ≡ g x) → after r f ≡ after r g
+after-cong : (r : Result Pair) (f g : Pair → Result Interval) → ((x : Pair) → f x ≡ g x) → after r f ≡ after r g
 after-cong (value x) f g e = e x
 after-cong (refusal n k) f g e = refl
 
-after-value : (r : Result) → after r (λ x. value x) ≡ r
+after-value : (r : Result Pair) → after r (λ x. value (interval x)) ≡ built r
 after-value (value x) = refl
 after-value (refusal n k) = refl
 
@@ -191,24 +193,29 @@ ran-constant : (k : ℕ) (w : Rounding) (p : Interval) (is : List Instruction) (
 unfolding ran
 ran-constant k w p is ms xs = rw add-one
 
-ran-one : (k j l : ℕ) (f : Unary) (w : Rounding) (is : List Instruction) (ms : List Bool) (xs : List Interval) (r : Result) → j ≡ k → suc k ≡ l
-    → after r (λ x. ran k (way-after (turning f) w) (instruction (One f) no-constant ∷ is) (turning f ∷ ms) (x ∷ xs)) ≡ after (after r λ x. at j (unary f x)) (λ z. ran l w is ms (z ∷ xs))
+-- a value handed out is a pair with its kind
+after-built : (k : ℕ) (o : answers.Outcome Pair) (f : Interval → Result Interval) → after (at k (answers.built o)) f ≡ after (at k o) (λ z. f (interval z))
+after-built k (answers.value p) f = refl
+after-built k (answers.refusal n) f = refl
+
+ran-one : (k j l : ℕ) (f : Unary) (w : Rounding) (is : List Instruction) (ms : List Bool) (xs : List Interval) (r : Result Pair) → j ≡ k → suc k ≡ l
+    → after r (λ x. ran k (way-after (turning f) w) (instruction (One f) no-constant ∷ is) (turning f ∷ ms) (interval x ∷ xs)) ≡ after (after r λ x. at j (unjudged-unary f x)) (λ z. ran l w is ms (interval z ∷ xs))
 unfolding ran
-ran-one k j l f w is ms xs (value x) e h = rw (way-back (turning f) w, e, ← h)
+ran-one k j l f w is ms xs (value x) e h = rw (way-back (turning f) w, e, ← h) (after-built k (unjudged-unary f x) (λ z. ran (suc k) w is ms (z ∷ xs)))
 ran-one k j l f w is ms xs (refusal n i) e h = refl
 
-ran-two : (k j l : ℕ) (g : Binary) (w : Rounding) (is : List Instruction) (ms : List Bool) (xs : List Interval) (r q : Result) → j ≡ k → suc k ≡ l
-    → after r (λ x. after q λ y. ran k w (instruction (Two g) no-constant ∷ is) (false ∷ ms) (y ∷ x ∷ xs))
-    ≡ after (after r λ x. after q λ y. at j (binary w g x y)) (λ z. ran l w is ms (z ∷ xs))
+ran-two : (k j l : ℕ) (g : Binary) (w : Rounding) (is : List Instruction) (ms : List Bool) (xs : List Interval) (r q : Result Pair) → j ≡ k → suc k ≡ l
+    → after r (λ x. after q λ y. ran k w (instruction (Two g) no-constant ∷ is) (false ∷ ms) (interval y ∷ interval x ∷ xs))
+    ≡ after (after r λ x. after q λ y. at j (unjudged-binary w g x y)) (λ z. ran l w is ms (interval z ∷ xs))
 unfolding ran
-ran-two k j l g w is ms xs (value x) (value y) e h = rw (e, ← h)
+ran-two k j l g w is ms xs (value x) (value y) e h = rw (e, ← h) (after-built k (unjudged-binary w g x y) (λ z. ran (suc k) w is ms (z ∷ xs)))
 ran-two k j l g w is ms xs (value x) (refusal n i) e h = refl
 ran-two k j l g w is ms xs (refusal n i) q e h = refl
 
 ran-flat : (k : ℕ) (w : Rounding) (t : Expression) (is : List Instruction) (ms : List Bool) (xs : List Interval) → Numbered k t
-    → ran k w (flat t ++ is) (turns t ++ ms) xs ≡ after (evaluated w t) λ z. ran (k + size t) w is ms (z ∷ xs)
+    → ran k w (flat t ++ is) (turns t ++ ms) xs ≡ after (evaluated w t) λ z. ran (k + size t) w is ms (interval z ∷ xs)
 unfolding flat turns size evaluated
-ran-flat k w (constant j p) is ms xs n = ran-constant k w p is ms xs
+ran-flat k w (constant j p) is ms xs n = ran-constant k w (interval p) is ms xs
 ran-flat k w (one j f a) is ms xs n =
     let v = way-after (turning f) w in
     rw (
@@ -228,9 +235,9 @@ ran-flat k w (two j g a b) is ms xs n =
       append-assoc (turns b) (false ∷ []) ms,
     )
     (ran-flat k w a (flat b ++ (i ∷ is)) (turns b ++ (false ∷ ms)) xs (n .0)
-    ∙ after-cong (evaluated w a) _ _ (λ x. ran-flat (k + size a) w b (i ∷ is) (false ∷ ms) (x ∷ xs) (n .1))
+    ∙ after-cong (evaluated w a) _ _ (λ x. ran-flat (k + size a) w b (i ∷ is) (false ∷ ms) (interval x ∷ xs) (n .1))
     ∙ ran-two (k + size a + size b) j (k + (size a + (size b + 1))) g w is ms xs (evaluated w a) (evaluated w b) (n .2) (omega arith))
 
-pub ran-compiled : (w : Rounding) (t : Expression) → Numbered 0 t → ran 0 w (flat t) (turns t) [] ≡ evaluated w t
+pub ran-compiled : (w : Rounding) (t : Expression) → Numbered 0 t → ran 0 w (flat t) (turns t) [] ≡ built (evaluated w t)
 unfolding ran
 ran-compiled w t n = rw (← append-nil (flat t), ← append-nil (turns t)) (ran-flat 0 w t [] [] [] n ∙ after-value (evaluated w t))

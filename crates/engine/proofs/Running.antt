@@ -1,4 +1,4 @@
--- A program's run, step by step: what a loop over it cites. Assumes nothing.
+-- A program's run, step by step: what a loop over it cites.
 use mathlib.Core.Path.{_≡_, refl, sym, ap}
 use mathlib.Core.Bool.{Bool, false}
 use mathlib.Core.List.{List, [], _∷_}
@@ -10,11 +10,12 @@ use lib.Seq.{drop-cons, getD-take}
 use Rattle.directed.specs.declared.Interval.{Interval}
 use Rattle.directed.specs.declared.Rounding.{Rounding}
 use Rattle.directed.specs.Answer as answers
-use Rattle.lists.specs.declared.Unary.{Unary}
-use Rattle.lists.specs.declared.Binary.{Binary}
+use Rattle.directed.specs.Lift.{pair-of}
+use Rattle.directed.specs.declared.Unary.{Unary}
+use Rattle.directed.specs.declared.Binary.{Binary}
 use Rattle.lists.specs.declared.Step.the-variants.{One, Two}
 use Rattle.lists.specs.Steps.{takes}
-use Rattle.lists.specs.Lists.{Result, value, refusal, unary, binary}
+use Rattle.lists.specs.Lists.{Result, value, refusal}
 use Rattle.engine.specs.declared.program.Instruction.{Instruction}
 use Rattle.engine.specs.Program.{tops, no-constant}
 use Rattle.engine.proofs.Tops.{tops-length, tops-drop}
@@ -22,12 +23,12 @@ use Rattle.engine.specs.Machine.{step-outcome, way-after, ran, Fits, end
 
 -- ---- what a step takes from the stack
 pub takes-one : (w : Rounding) (f : Unary) (p : Interval) (n : ℕ) (items : List Interval) → 1 ≤ n
-    → unary f (getD items (n - 1) no-constant) ≡ step-outcome w (One f) p (tops no-constant n items)
+    → answers.built (answers.unjudged-unary f (pair-of (getD items (n - 1) no-constant))) ≡ step-outcome w (One f) p (tops no-constant n items)
 takes-one w f p zero items h = absurd (omega arith)
 takes-one w f p (suc n) items h = rw (sub-one (suc n))
 
 pub takes-two : (w : Rounding) (g : Binary) (p : Interval) (n : ℕ) (items : List Interval) → 2 ≤ n
-    → binary w g (getD items (n - 2) no-constant) (getD items (n - 1) no-constant) ≡ step-outcome w (Two g) p (tops no-constant n items)
+    → answers.built (answers.unjudged-binary w g (pair-of (getD items (n - 2) no-constant)) (pair-of (getD items (n - 1) no-constant))) ≡ step-outcome w (Two g) p (tops no-constant n items)
 takes-two w g p zero items h = absurd (omega arith)
 takes-two w g p (suc zero) items h = absurd (omega arith)
 takes-two w g p (suc (suc n)) items h =
@@ -35,7 +36,7 @@ takes-two w g p (suc (suc n)) items h =
     rw (e, sub-one (suc (suc n)))
 
 -- ---- between two steps: what the rest gives is what the whole gives
-pub record Going (k d : ℕ) (w : Rounding) (is : List Instruction) (ms : List Bool) (xs : List Interval) (all : Result) : Type 0 where
+pub record Going (k d : ℕ) (w : Rounding) (is : List Instruction) (ms : List Bool) (xs : List Interval) (all : Result Interval) : Type 0 where
   pub fits : Fits 16 d is 1
   pub rest : ran k w is ms xs ≡ all
 
@@ -51,7 +52,7 @@ head (step a b f) = record { enough = a; room = b; others = f }
 last : {d : ℕ} → Fits 16 d [] 1 → d ≡ 1
 last end = refl
 
-module _ (n k : ℕ) (is : List Instruction) (ms : List Bool) (hi : n ≤ length is) (hm : n ≤ length ms) (d : ℕ) (w : Rounding) (xs : List Interval) (all : Result)
+module _ (n k : ℕ) (is : List Instruction) (ms : List Bool) (hi : n ≤ length is) (hm : n ≤ length ms) (d : ℕ) (w : Rounding) (xs : List Interval) (all : Result Interval)
     (g : Going k d w (drop k (take n is)) (drop k (take n ms)) xs all) (i₀ : Instruction) where
   instruction-at : k < n → drop k (take n is) ≡ getD is k i₀ ∷ drop (k + 1) (take n is)
   instruction-at h = rw (add-one, ← getD-take n is k i₀ h) (drop-cons (take n is) k i₀ (simp length-take (omega arith)))
@@ -84,7 +85,7 @@ module _ (n k : ℕ) (is : List Instruction) (ms : List Bool) (hi : n ≤ length
       (last (rw e at (g .fits)), rw e at (g .rest))
 
 -- the value goes to the place of the first that is taken
-pub going-put : (n k : ℕ) (is : List Instruction) (ms : List Bool) → n ≤ length is → n ≤ length ms → (d : ℕ) (w : Rounding) (items : List Interval) (all : Result)
+pub going-put : (n k : ℕ) (is : List Instruction) (ms : List Bool) → n ≤ length is → n ≤ length ms → (d : ℕ) (w : Rounding) (items : List Interval) (all : Result Interval)
     → Going k d w (drop k (take n is)) (drop k (take n ms)) (tops no-constant d items) all → (i₀ : Instruction) → k < n
     → (x : Interval) (w′ : Rounding) (m d′ : ℕ) (items′ : List Interval) → w′ ≡ way-after (getD ms k false) w → m ≡ takes (getD is k i₀ .step)
     → answers.value x ≡ step-outcome w′ (getD is k i₀ .step) (getD is k i₀ .constant) (tops no-constant d items)

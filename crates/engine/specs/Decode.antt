@@ -1,10 +1,11 @@
--- What decoding promises: the refusal that reading comes to, with its step, or a program whose run is the list's answer. Assumes nothing.
+-- What decoding promises: the refusal that reading comes to, with its step, or a program whose run is the list's answer.
 use mathlib.Core.Path.{_≡_}
 use mathlib.Core.Bool.{Bool}
 use mathlib.Core.List.{List, []}
 use Prim.Native.Nat.{ℕ, _≤_}
 use Rattle.directed.specs.declared.Rounding.{Rounding}
-use Rattle.lists.specs.Lists.{Judgement, sound, cause, refused, read, answer}
+use Rattle.directed.specs.Answer.{Judgement, sound, cause}
+use Rattle.lists.specs.Lists.{refusal, read, answer, built}
 use Rattle.engine.specs.declared.program.Instruction.{Instruction}
 use Rattle.engine.specs.Machine.{ran, Fits}
 
@@ -14,5 +15,5 @@ pub record Runs (count : ℕ) (is : List Instruction) : Type 0 where
   pub values : Fits 16 0 is 1
 
 pub data Decodes (v steps : ℕ) (s : List ℕ) (count : ℕ) (is : List Instruction) (ms : List Bool) : Judgement → Type 0 where
-  refuses : {n : ℕ} → read v steps 0 [] s ≡ refused n count → Decodes v steps s count is ms (cause n)
-  gives : Runs count is → ((w : Rounding) → ran 0 w is ms [] ≡ answer v steps w s) → Decodes v steps s count is ms sound
+  refuses : {n : ℕ} → read v steps 0 [] s ≡ refusal n count → Decodes v steps s count is ms (cause n)
+  gives : Runs count is → ((w : Rounding) → ran 0 w is ms [] ≡ built (answer v steps w s)) → Decodes v steps s count is ms sound

@@ -1,4 +1,4 @@
--- What a program's run gives: each step once, in order, in the way that has turned so far. Assumes nothing.
+-- What a program's run gives: each step once, in order, in the way that has turned so far.
 use mathlib.Core.Bool.{Bool}
 use mathlib.Core.List.{List, [], _∷_}
 use Prim.Native.Nat.{ℕ, suc, _+_, _-_, _≤_}
@@ -7,11 +7,12 @@ use Rattle.directed.specs.Thousandths.{other-way}
 use Rattle.directed.specs.declared.Interval.{Interval}
 use Rattle.directed.specs.declared.Rounding.{Rounding}
 use Rattle.directed.specs.Choice.{if_then_else_}
+use Rattle.directed.specs.Lift.{pair-of}
 use Rattle.directed.specs.Answer as answers
 use Rattle.lists.specs.declared.Step.{Step}
-use Rattle.lists.specs.declared.Step.the-variants.{Constant, One, Two, Unknown}
+use Rattle.lists.specs.declared.Step.the-variants.{Constant, One, Two}
 use Rattle.lists.specs.Steps.{takes}
-use Rattle.lists.specs.Lists.{Result, value, unary, binary, at, after}
+use Rattle.lists.specs.Lists.{Result, value, at, after}
 use Rattle.engine.specs.declared.program.Instruction.{Instruction}
 use Rattle.engine.specs.declared.machine.Stack.{Stack}
 use Rattle.engine.specs.Program.{tops, no-constant}
@@ -20,20 +21,19 @@ abbrev pub values-of : Stack → List Interval
 values-of st = tops no-constant (st .depth) (st .items)
 
 -- a step on the values that wait, the latest first
-abbrev pub step-outcome : Rounding → Step → Interval → List Interval → answers.Outcome
+abbrev pub step-outcome : Rounding → Step → Interval → List Interval → answers.Outcome Interval
 step-outcome w Constant p xs = answers.value p
 step-outcome w (One f) p [] = answers.value p
-step-outcome w (One f) p (x ∷ xs) = unary f x
+step-outcome w (One f) p (x ∷ xs) = answers.built (answers.unjudged-unary f (pair-of x))
 step-outcome w (Two g) p [] = answers.value p
 step-outcome w (Two g) p (y ∷ []) = answers.value p
-step-outcome w (Two g) p (y ∷ x ∷ xs) = binary w g x y
-step-outcome w Unknown p xs = answers.value p
+step-outcome w (Two g) p (y ∷ x ∷ xs) = answers.built (answers.unjudged-binary w g (pair-of x) (pair-of y))
 
 abbrev pub way-after : Bool → Rounding → Rounding
 way-after m w = if m then other-way w else w
 
 -- from step k on
-unfoldable pub ran : ℕ → Rounding → List Instruction → List Bool → List Interval → Result
+unfoldable pub ran : ℕ → Rounding → List Instruction → List Bool → List Interval → Result Interval
 ran k w [] ms xs = value (getD xs 0 no-constant)
 ran k w (i ∷ is) [] xs = value (getD xs 0 no-constant)
 ran k w (i ∷ is) (m ∷ ms) xs =

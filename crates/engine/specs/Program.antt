@@ -1,4 +1,4 @@
--- A program in lists: the steps in order, at which of them the way turns, and where each waiting expression starts. Assumes nothing.
+-- A program in lists: the steps in order, at which of them the way turns, and where each waiting expression starts.
 use mathlib.Core.Bool.{Bool, true, false, not}
 use mathlib.Core.List.{List, [], _∷_, _++_}
 use Prim.Native.Nat.{ℕ, zero, suc, _+_}
@@ -6,12 +6,12 @@ use lib.IntN.{pos}
 use lib.ListN.{take, drop, getD, set}
 use Rattle.directed.specs.declared.Interval.{Interval}
 use Rattle.directed.specs.Choice.{if_then_else_}
-use Rattle.directed.specs.Thousandths.{interval}
-use Rattle.lists.specs.declared.Unary.{Unary}
-use Rattle.lists.specs.declared.Unary.the-variants.{Negation, Opposite, Dual}
+use Rattle.directed.specs.Thousandths.{pair}
+use Rattle.directed.specs.Lift.{interval}
 use Rattle.lists.specs.declared.Step.{Step}
-use Rattle.lists.specs.declared.Step.the-variants.{Constant, One, Two, Unknown}
+use Rattle.lists.specs.declared.Step.the-variants.{Constant, One, Two}
 use Rattle.lists.specs.Steps.{constant-in}
+use Rattle.lists.specs.Ways.{turning}
 use Rattle.engine.specs.declared.program.Instruction.{Instruction}
 use Rattle.engine.specs.declared.program.Program.{Program}
 
@@ -24,16 +24,10 @@ tops d (suc n) items = getD items n d ∷ tops d n items
 abbrev pub instruction : Step → Interval → Instruction
 instruction s p = record { step = s; constant = p }
 
-abbrev pub turning : Unary → Bool
-turning Negation = false
-turning Opposite = true
-turning Dual = true
-
 abbrev pub step-turns : Step → Bool
 step-turns Constant = false
 step-turns (One f) = turning f
 step-turns (Two g) = false
-step-turns Unknown = false
 
 abbrev pub turned-by : Bool → Bool → Bool
 turned-by t m = if t then not m else m
@@ -42,16 +36,14 @@ abbrev pub first-step : Step → ℕ → ℕ → ℕ
 first-step Constant first k = k
 first-step (One f) first k = first
 first-step (Two g) first k = first
-first-step Unknown first k = first
 
 abbrev pub no-constant : Interval
-no-constant = interval (pos 0) (pos 0)
+no-constant = interval (pair (pos 0) (pos 0))
 
 abbrev pub step-constant : Step → List ℕ → Interval
-step-constant Constant rest = constant-in rest
+step-constant Constant rest = interval (constant-in rest)
 step-constant (One f) rest = no-constant
 step-constant (Two g) rest = no-constant
-step-constant Unknown rest = no-constant
 
 -- ---- a program
 abbrev pub instructions-of : Program → List Instruction
@@ -61,20 +53,20 @@ abbrev pub turns-of : Program → List Bool
 turns-of p = take (p .count) (p .turns)
 
 -- while it is made: also the first step of each waiting expression, the latest first
-pub record Code : Type 0 where
+pub record Draft : Type 0 where
   pub count : ℕ
   pub instructions : List Instruction
   pub turns : List Bool
   pub starts : List ℕ
 
-abbrev pub code : ℕ → List Instruction → List Bool → List ℕ → Code
-code n is ms ss = record { count = n; instructions = is; turns = ms; starts = ss }
+abbrev pub draft : ℕ → List Instruction → List Bool → List ℕ → Draft
+draft n is ms ss = record { count = n; instructions = is; turns = ms; starts = ss }
 
-abbrev pub made : Program → ℕ → List ℕ → Code
-made p waiting starts = code (p .count) (instructions-of p) (turns-of p) (tops 0 waiting starts)
+abbrev pub made : Program → ℕ → List ℕ → Draft
+made p waiting starts = draft (p .count) (instructions-of p) (turns-of p) (tops 0 waiting starts)
 
-abbrev pub empty : Code
-empty = code 0 [] [] []
+abbrev pub empty : Draft
+empty = draft 0 [] [] []
 
 abbrev pub turned-at : ℕ → List Bool → List Bool
 turned-at n ms = set ms n (not (getD ms n false))
@@ -83,11 +75,10 @@ abbrev pub step-starts : Step → ℕ → List ℕ → List ℕ
 step-starts Constant k ss = k ∷ ss
 step-starts (One f) k ss = ss
 step-starts (Two g) k ss = drop 1 ss
-step-starts Unknown k ss = ss
 
 -- a step more: where it turns, the way changes at the first step of what it is applied to, and back at the step itself
-abbrev pub added : Step → List ℕ → Code → Code
+abbrev pub added : Step → List ℕ → Draft → Draft
 added s rest c =
-    code (c .count + 1) (c .instructions ++ (instruction s (step-constant s rest) ∷ []))
+    draft (c .count + 1) (c .instructions ++ (instruction s (step-constant s rest) ∷ []))
     ((if step-turns s then turned-at (getD (c .starts) 0 0) (c .turns) else c .turns) ++ (step-turns s ∷ []))
     (step-starts s (c .count) (c .starts))

@@ -4,6 +4,7 @@ ghost use Prim.Native.Nat.{_+_, _≤_};
 ghost use lib.ListN.{length};
 ghost use mir.Syntax.{w32};
 ghost use mir.Val.{toZ};
+ghost use Rattle.directed.specs.Lift.{interval};
 ghost use Rattle.lists.specs.Steps.{word, word-at, constant-in};
 use directed::Interval;
 
@@ -32,10 +33,7 @@ fn end_at(s: &[u8], at: usize) -> i32
 
 pub fn constant_in(s: &[u8]) -> Interval
     requires { ⌜ 8 ≤ length (now s) ⌝ }
-    ensures { λ r. ⌜ r ≡ constant-in (now (s .entry)) ⌝ }
+    ensures { λ r. ⌜ r ≡ interval (constant-in (now (s .entry))) ⌝ }
 {
-    Interval {
-        lower: end_at(s, 0),
-        upper: end_at(s, 4),
-    }
+    Interval::new(end_at(s, 0), end_at(s, 4))
 }

@@ -2,7 +2,7 @@
 // program that tells where the way turns; then the program is run, each step once and in its one way.
 ghost use mathlib.Core.Path.{_≡_};
 ghost use Prim.Native.Nat.{_≤_};
-ghost use Rattle.lists.specs.Lists.{answer, outcome};
+ghost use Rattle.lists.specs.Lists.{answer, outcome, built};
 use directed::Rounding;
 use lists::ListAnswer;
 
@@ -15,14 +15,14 @@ mod program;
 // With a caller's own limits: at most `values` values wait at once, and the list has at most `steps` steps.
 fn evaluate_within(list: &[u8], rounding: Rounding, values: usize, steps: usize) -> ListAnswer
     requires { ⌜ (values ≤ 16) × (steps ≤ 64) ⌝ }
-    ensures { λ r. ⌜ outcome r ≡ answer values steps rounding (now (list .entry)) ⌝ }
+    ensures { λ r. ⌜ outcome r ≡ built (answer values steps rounding (now (list .entry))) ⌝ }
 {
     let decoded = decode::decode(list, values, steps);
     let verdict = decoded.verdict;
     let program = decoded.program;
     match verdict {
-        judge::Verdict::Sound => machine::run(program, rounding),
-        judge::Verdict::Refused(cause) => ListAnswer::Refused {
+        decode::Verdict::Sound => machine::run(program, rounding),
+        decode::Verdict::Refused(cause) => ListAnswer::Refused {
             cause,
             at: program.count,
         },
@@ -31,7 +31,7 @@ fn evaluate_within(list: &[u8], rounding: Rounding, values: usize, steps: usize)
 
 // What a list answers, whatever its bytes are: its value, or one refusal with its step, or with the count of steps read.
 pub fn evaluate(list: &[u8], rounding: Rounding) -> ListAnswer
-    ensures { λ r. ⌜ outcome r ≡ answer 16 64 rounding (now (list .entry)) ⌝ }
+    ensures { λ r. ⌜ outcome r ≡ built (answer 16 64 rounding (now (list .entry))) ⌝ }
 {
     evaluate_within(list, rounding, 16, 64)
 }

@@ -5,7 +5,7 @@ ghost use Prim.Native.Nat.{_≤_, _<_};
 ghost use lib.ListN.{getD};
 ghost use Rattle.directed.specs.Answer as answers;
 ghost use Rattle.lists.specs.Steps.{takes};
-ghost use Rattle.lists.specs.Lists.{outcome, unary, binary};
+ghost use Rattle.lists.specs.Lists.{outcome};
 ghost use Rattle.engine.specs.Program.{tops, no-constant, instructions-of, turns-of};
 ghost use Rattle.engine.specs.Machine.{values-of, step-outcome, way-after, ran};
 ghost use Rattle.engine.specs.Decode.{Runs};
@@ -14,10 +14,8 @@ use crate::program::Program;
 use directed::Answer;
 use directed::Interval;
 use directed::Rounding;
-use lists::Binary;
 use lists::ListAnswer;
 use lists::Step;
-use lists::Unary;
 
 pub struct Stack {
     pub items: [Interval; 16],
@@ -63,28 +61,6 @@ fn turned(turn: bool, rounding: Rounding) -> Rounding
     }
 }
 
-fn unary_answer(op: Unary, a: Interval) -> Answer
-    ensures { λ r. ⌜ answers.outcome r ≡ unary op a ⌝ }
-{
-    match op {
-        Unary::Negation => arithmetic::round_negation(a),
-        Unary::Opposite => arithmetic::round_opposite(a),
-        Unary::Dual => arithmetic::round_dual(a),
-    }
-}
-
-fn binary_answer(op: Binary, a: Interval, b: Interval, rounding: Rounding) -> Answer
-    ensures { λ r. ⌜ answers.outcome r ≡ binary rounding op a b ⌝ }
-{
-    match op {
-        Binary::Sum => arithmetic::round_sum(a, b, rounding),
-        Binary::Difference => arithmetic::round_difference(a, b, rounding),
-        Binary::Product => arithmetic::round_product(a, b, rounding),
-        Binary::Join => arithmetic::round_join(a, b),
-        Binary::Meet => arithmetic::round_meet(a, b),
-    }
-}
-
 // A step's value, of the values that it takes: the later one is the second.
 fn step_answer(stack: Stack, step: Step, constant: Interval, rounding: Rounding) -> Answer
     requires { ⌜ (takes step ≤ stack .depth) × (stack .depth ≤ 16) ⌝ }
@@ -93,17 +69,16 @@ fn step_answer(stack: Stack, step: Step, constant: Interval, rounding: Rounding)
     let n = stack.depth;
     match step {
         Step::Constant => Answer::Value(constant),
-        Step::One(op) => unary_answer(op, stack.item(n - 1)),
+        Step::One(op) => arithmetic::unjudged_unary(op, stack.item(n - 1)),
         Step::Two(op) => {
             let a = stack.item(n - 2);
             let b = stack.item(n - 1);
-            binary_answer(op, a, b, rounding)
+            arithmetic::unjudged_binary(op, a, b, rounding)
         }
-        Step::Unknown => Answer::Value(constant),
     }
 }
 
-// Cause 4 comes here alone, at the first step whose value in its way is beyond the range.
+// The causes of the operations, 4 and 5, come here alone, at the first step that has one in its way.
 pub fn run(program: Program, rounding: Rounding) -> ListAnswer
     requires { ⌜ Runs (program .count) (instructions-of program) ⌝ }
     ensures { λ r. ⌜ outcome r ≡ ran 0 rounding (instructions-of program) (turns-of program) [] ⌝ }

@@ -1,10 +1,11 @@
--- A refusal is the one that reading comes to, and a program gives the list's answer. Assumes nothing.
+-- A refusal is the one that reading comes to, and a program gives the list's answer.
 use mathlib.Core.Path.{_≡_, _∙_}
 use mathlib.Core.Bool.{Bool}
 use mathlib.Core.List.{List, []}
 use Prim.Native.Nat.{ℕ}
 use Rattle.directed.specs.declared.Rounding.{Rounding}
-use Rattle.lists.specs.Lists.{sound, cause, refusal, answer}
+use Rattle.directed.specs.Answer.{sound, cause}
+use Rattle.lists.specs.Lists.{built, refusal, answer}
 use Rattle.engine.specs.declared.program.Instruction.{Instruction}
 use Rattle.engine.specs.Machine.{ran}
 use Rattle.engine.specs.Decode.{Decodes, refuses, gives, Runs}
@@ -16,24 +17,15 @@ module _ {v steps n : ℕ} {s : List ℕ} {is : List Instruction} {ms : List Boo
   sound-runs : Decodes v steps s n is ms sound → Runs n is
   sound-runs (gives r e) = r
 
-  sound-answers : Decodes v steps s n is ms sound → (w : Rounding) → ran 0 w is ms [] ≡ answer v steps w s
+  sound-answers : Decodes v steps s n is ms sound → (w : Rounding) → ran 0 w is ms [] ≡ built (answer v steps w s)
   sound-answers (gives r e) w = e w
 
-  cause-answers : {k : ℕ} → Decodes v steps s n is ms (cause k) → (w : Rounding) → refusal k n ≡ answer v steps w s
+  cause-answers : {k : ℕ} → Decodes v steps s n is ms (cause k) → (w : Rounding) → refusal k n ≡ built (answer v steps w s)
   unfolding answer
   cause-answers (refuses e) w = rw e
 
-decode-requires : tie.Need-decode-requires
-decode-requires c κs = search needs
-
-enum-told : tie.Need-enum-told
-enum-told c = search needs
-
 run-requires : tie.Need-run-requires
 run-requires c κs = sound-runs (rw (c .enum-told .given .1) at (c .before .before .before .decode .ensures))
-
-enum-known-verdict : tie.Need-enum-known-verdict
-enum-known-verdict c = search needs
 
 returns : tie.Need-returns
 returns c = c .run .ensures ∙ sound-answers (rw (c .before .enum-told .given .1) at (c .before .before .before .before .decode .ensures)) _
@@ -42,6 +34,4 @@ returns-2 : tie.Need-returns-2
 returns-2 c = cause-answers (rw (c .before .verdict .given .1) at (c .before .before .before .before .decode .ensures)) _
 
 pub evaluate-within-spec : {M : Type 1} → statement M
-evaluate-within-spec =
-    tie.close
-    (tie.spec decode-requires enum-told run-requires enum-known-verdict returns returns-2)
+evaluate-within-spec = tie.close (tie.spec (λ c κs. search needs) (λ c. search needs) run-requires (λ c. search needs) returns returns-2)

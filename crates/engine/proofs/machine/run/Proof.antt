@@ -1,4 +1,4 @@
--- Each turn keeps what the rest gives. Assumes nothing.
+-- Each turn keeps what the rest gives.
 use borrow.Author.Needs.{needs}
 use mathlib.Core.Path.{_≡_, refl, sym, _∙_}
 use mathlib.Core.List.{[]}
@@ -24,24 +24,9 @@ sizes c =
     let f : length (c .args .t1 .turns) ≡ 64 = search needs in
     (omega (arith, c .pre .steps), omega (arith, c .pre .steps))
 
-new-requires : tie.Need-new-requires Inv-loop μ-loop
-new-requires c κs = search needs
-
 loop-holds : tie.Need-loop-holds Inv-loop μ-loop
 loop-holds c =
     rw (c .new .ensures) (omega arith, omega arith, record { fits = c .before .pre .values; rest = refl })
-
-mul-instruction : tie.Need-mul-instruction Inv-loop μ-loop
-mul-instruction c = search needs
-
-element-copy-out-instruction : tie.Need-element-copy-out-instruction Inv-loop μ-loop
-element-copy-out-instruction c = search needs
-
-element-copy-out-turned : tie.Need-element-copy-out-turned Inv-loop μ-loop
-element-copy-out-turned c = search needs
-
-turned-requires : tie.Need-turned-requires Inv-loop μ-loop
-turned-requires c κs = search needs
 
 step-answer-requires : tie.Need-step-answer-requires Inv-loop μ-loop
 step-answer-requires c κs =
@@ -50,12 +35,6 @@ step-answer-requires c κs =
     let l = c .before .before .before .before .loop in
     let z = sizes s in
     (going-enough (p .count) (l .k) (p .instructions) (p .turns) (z .0) (z .1) _ _ _ _ (l .inv .2) _ (omega arith), omega arith)
-
-enum-known-answer : tie.Need-enum-known-answer Inv-loop μ-loop
-enum-known-answer c = search needs
-
-taken-requires : tie.Need-taken-requires Inv-loop μ-loop
-taken-requires c κs = search needs
 
 sub-put : tie.Need-sub-put Inv-loop μ-loop
 sub-put c =
@@ -74,9 +53,6 @@ put-requires c κs =
     let h = going-room (p .count) (l .k) (p .instructions) (p .turns) (z .0) (z .1) _ _ _ _ (l .inv .2) (instruction Constant no-constant) (omega arith) in
     omega (arith, c .before .taken .ensures, h)
 
-enum-known-answer-2 : tie.Need-enum-known-answer-2 Inv-loop μ-loop
-enum-known-answer-2 c = search needs
-
 returns : tie.Need-returns Inv-loop μ-loop
 returns c =
     let s = c .before .before .before .before .before .before .before .before .before .before in
@@ -85,12 +61,6 @@ returns c =
     let z = sizes s in
     going-refused (p .count) (l .k) (p .instructions) (p .turns) (z .0) (z .1) _ _ _ _ (l .inv .2) _ _ (omega arith)
     (sym (rw (c .before .answer2 .given .1, c .before .before .before .before .turned .ensures) at (c .before .before .before .step-answer .ensures)))
-
-add-k : tie.Need-add-k Inv-loop μ-loop
-add-k c = search needs
-
-loop-less : tie.Need-loop-less Inv-loop μ-loop
-loop-less c = search needs
 
 loop-again : tie.Need-loop-again Inv-loop μ-loop
 loop-again c =
@@ -104,9 +74,6 @@ loop-again c =
     (c .before .before .before .before .before .before .before .turned .ensures) (c .before .before .taken .ensures) (rw (c .before .before .before .before .answer .given .1) at (c .before .before .before .before .before .before .step-answer .ensures)) (c .put .ensures) in
     (omega arith, q .0, q .1)
 
-item-requires : tie.Need-item-requires Inv-loop μ-loop
-item-requires c κs = search needs
-
 returns-2 : tie.Need-returns-2 Inv-loop μ-loop
 returns-2 c =
     let s = c .before .before .before .before in
@@ -119,24 +86,6 @@ returns-2 c =
 pub run-spec : {M : Type 1} → statement M
 run-spec =
     tie.close
-    (tie.spec
-    Inv-loop
-    μ-loop
-    new-requires
-    loop-holds
-    mul-instruction
-    element-copy-out-instruction
-    element-copy-out-turned
-    turned-requires
-    step-answer-requires
-    enum-known-answer
-    taken-requires
-    sub-put
-    put-requires
-    enum-known-answer-2
-    returns
-    add-k
-    loop-less
-    loop-again
-    item-requires
-    returns-2)
+    (tie.spec Inv-loop μ-loop (λ c κs. search needs) loop-holds (λ c. search needs) (λ c. search needs) (λ c. search needs) (λ c κs. search needs)
+    step-answer-requires (λ c. search needs) (λ c κs. search needs) sub-put put-requires (λ c. search needs) returns (λ c. search needs)
+    (λ c. search needs) loop-again (λ c κs. search needs) returns-2)
