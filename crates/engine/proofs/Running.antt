@@ -1,5 +1,5 @@
 -- A program's run, step by step: what a loop over it cites.
-use mathlib.Core.Path.{_≡_, refl, sym, ap}
+use mathlib.Core.Path.{_≡_, refl, ap}
 use mathlib.Core.Bool.{Bool, false}
 use mathlib.Core.List.{List, [], _∷_}
 use Prim.Native.Nat.{ℕ, zero, suc, _+_, _-_, _≤_, _<_}
@@ -40,43 +40,34 @@ pub record Going (k d : ℕ) (w : Rounding) (is : List Instruction) (ms : List B
   pub fits : Fits 16 d is 1
   pub rest : ran k w is ms xs ≡ all
 
-record Head (d : ℕ) (i : Instruction) (is : List Instruction) : Type 0 where
-  enough : takes (i .step) ≤ d
-  room : d - takes (i .step) + 1 ≤ 16
-  others : Fits 16 (d - takes (i .step) + 1) is 1
+-- the step that is next: what it may take, and where its answer leads
+pub record Turn (k d : ℕ) (w : Rounding) (i : Instruction) (is : List Instruction) (ms : List Bool) (xs : List Interval) (all : Result Interval) : Type 0 where
+  pub enough : takes (i .step) ≤ d
+  pub room : d - takes (i .step) + 1 ≤ 16
+  pub refused : (c : ℕ) → answers.refusal c ≡ step-outcome w (i .step) (i .constant) xs → refusal c k ≡ all
+  pub goes-on : (x : Interval) → answers.value x ≡ step-outcome w (i .step) (i .constant) xs → Going (k + 1) (d - takes (i .step) + 1) w is ms (x ∷ drop (takes (i .step)) xs) all
 
-head : {d : ℕ} {i : Instruction} {is : List Instruction} → Fits 16 d (i ∷ is) 1 → Head d i is
-head (step a b f) = record { enough = a; room = b; others = f }
+head : {k d : ℕ} (w : Rounding) {i : Instruction} (m : Bool) {is : List Instruction} {ms : List Bool} {xs : List Interval} {all : Result Interval}
+    → Fits 16 d (i ∷ is) 1 → ran k w (i ∷ is) (m ∷ ms) xs ≡ all → Turn k d (way-after m w) i is ms xs all
+unfolding ran
+head {k} w m (step a b f) e = record {
+  enough = a;
+  room = b;
+  refused = λ c h. rw (← h) at e;
+  goes-on = λ x h. record { fits = f; rest = rw add-one (rw (← h) at e) };
+}
 
 -- the last step is done: one value is left
 last : {d : ℕ} → Fits 16 d [] 1 → d ≡ 1
 last end = refl
 
+item-at : {A : Type 0} (n k : ℕ) (xs : List A) (d : A) → n ≤ length xs → k < n → drop k (take n xs) ≡ getD xs k d ∷ drop (k + 1) (take n xs)
+item-at n k xs d l h = rw (add-one, ← getD-take n xs k d h) (drop-cons (take n xs) k d (simp length-take (omega arith)))
+
 module _ (n k : ℕ) (is : List Instruction) (ms : List Bool) (hi : n ≤ length is) (hm : n ≤ length ms) (d : ℕ) (w : Rounding) (xs : List Interval) (all : Result Interval)
-    (g : Going k d w (drop k (take n is)) (drop k (take n ms)) xs all) (i₀ : Instruction) where
-  instruction-at : k < n → drop k (take n is) ≡ getD is k i₀ ∷ drop (k + 1) (take n is)
-  instruction-at h = rw (add-one, ← getD-take n is k i₀ h) (drop-cons (take n is) k i₀ (simp length-take (omega arith)))
-
-  turn-at : k < n → drop k (take n ms) ≡ getD ms k false ∷ drop (k + 1) (take n ms)
-  turn-at h = rw (add-one, ← getD-take n ms k false h) (drop-cons (take n ms) k false (simp length-take (omega arith)))
-
-  first-step : k < n → Head d (getD is k i₀) (drop (k + 1) (take n is))
-  first-step h = head (rw (instruction-at h) at (g .fits))
-
-  pub going-enough : k < n → takes (getD is k i₀ .step) ≤ d
-  going-enough h = first-step h .enough
-
-  pub going-room : k < n → d - takes (getD is k i₀ .step) + 1 ≤ 16
-  going-room h = first-step h .room
-
-  pub going-refused : (c : ℕ) → k < n → step-outcome (way-after (getD ms k false) w) (getD is k i₀ .step) (getD is k i₀ .constant) xs ≡ answers.refusal c → refusal c k ≡ all
-  unfolding ran
-  going-refused c h e = rw (instruction-at h, turn-at h, e) at (g .rest)
-
-  pub going-value : (x : Interval) → k < n → step-outcome (way-after (getD ms k false) w) (getD is k i₀ .step) (getD is k i₀ .constant) xs ≡ answers.value x
-      → Going (k + 1) (d - takes (getD is k i₀ .step) + 1) (way-after (getD ms k false) w) (drop (k + 1) (take n is)) (drop (k + 1) (take n ms)) (x ∷ drop (takes (getD is k i₀ .step)) xs) all
-  unfolding ran
-  going-value x h e = record { fits = first-step h .others; rest = rw (← add-one k) at (rw (instruction-at h, turn-at h, e) at (g .rest)) }
+    (g : Going k d w (drop k (take n is)) (drop k (take n ms)) xs all) where
+  pub turn : (i₀ : Instruction) → k < n → Turn k d (way-after (getD ms k false) w) (getD is k i₀) (drop (k + 1) (take n is)) (drop (k + 1) (take n ms)) xs all
+  turn i₀ h = head w (getD ms k false) (rw (item-at n k is i₀ hi h) at (g .fits)) (rw (item-at n k is i₀ hi h, item-at n k ms false hm h) at (g .rest))
 
   pub going-end : n ≤ k → (d ≡ 1) × (value (getD xs 0 no-constant) ≡ all)
   unfolding ran
@@ -85,14 +76,11 @@ module _ (n k : ℕ) (is : List Instruction) (ms : List Bool) (hi : n ≤ length
       (last (rw e at (g .fits)), rw e at (g .rest))
 
 -- the value goes to the place of the first that is taken
-pub going-put : (n k : ℕ) (is : List Instruction) (ms : List Bool) → n ≤ length is → n ≤ length ms → (d : ℕ) (w : Rounding) (items : List Interval) (all : Result Interval)
-    → Going k d w (drop k (take n is)) (drop k (take n ms)) (tops no-constant d items) all → (i₀ : Instruction) → k < n
-    → (x : Interval) (w′ : Rounding) (m d′ : ℕ) (items′ : List Interval) → w′ ≡ way-after (getD ms k false) w → m ≡ takes (getD is k i₀ .step)
-    → answers.value x ≡ step-outcome w′ (getD is k i₀ .step) (getD is k i₀ .constant) (tops no-constant d items)
+pub going-put : {k d : ℕ} {w : Rounding} {i : Instruction} {is : List Instruction} {ms : List Bool} (items : List Interval) {all : Result Interval}
+    → Turn k d w i is ms (tops no-constant d items) all → (x : Interval) (m d′ : ℕ) (items′ : List Interval) → m ≡ takes (i .step)
+    → answers.value x ≡ step-outcome w (i .step) (i .constant) (tops no-constant d items)
     → tops no-constant d′ items′ ≡ x ∷ tops no-constant (d - m) items
-    → (d′ ≤ 16) × Going (k + 1) d′ w′ (drop (k + 1) (take n is)) (drop (k + 1) (take n ms)) (tops no-constant d′ items′) all
-going-put n k is ms hi hm d w items all g i₀ h x w′ m d′ items′ ew em e et =
-    let a = going-enough n k is ms hi hm d w _ all g i₀ h in
-    let b = going-room n k is ms hi hm d w _ all g i₀ h in
-    let q : d′ ≡ d - takes (getD is k i₀ .step) + 1 = omega (arith, em, ap length et, tops-length no-constant d′ items′, tops-length no-constant (d - m) items) in
-    (omega (arith, q, b), rw (et, em, tops-drop no-constant _ d items a, q, ew) (going-value n k is ms hi hm d w _ all g i₀ x h (sym (rw ew at e))))
+    → (d′ ≤ 16) × Going (k + 1) d′ w is ms (tops no-constant d′ items′) all
+going-put {d = d} {i = i} items t x m d′ items′ em e et =
+    let q : d′ ≡ d - takes (i .step) + 1 = omega (arith, em, ap length et, tops-length no-constant d′ items′, tops-length no-constant (d - m) items) in
+    (omega (arith, q, t .room), rw (et, em, tops-drop no-constant _ d items (t .enough), q) (t .goes-on x e))

@@ -10,8 +10,8 @@ use Rattle.engine.proofs.judge.code_of.Statement.{statement}
 use Rattle.engine.proofs.judge.code_of.Tie as tie
 
 -- past one more code
-past : (m n : ℕ) → m ≤ n → (n ≡ m → ⊥) → suc m ≤ n
-past m n h e = omega arith
+past : (m n : ℕ) {A : Type 0} → (A → m ≤ n) → A × (n ≡ m → ⊥) → suc m ≤ n
+past m n f r = let h = f (r .0) in let k = r .1 in omega arith
 
 unknown-code : (n : ℕ) → length codes ≤ n → Unknown ≡ code-of n
 unfolding code-of
@@ -20,9 +20,7 @@ unknown-code n h = sym (List·getD-eq-default (map Known codes) Unknown h)
 returns-10 : tie.Need-returns-10
 returns-10 c =
     let n = c .before .args .byte in
-    let r = c .match .rest in
-    unknown-code n
-    (past 8 n (past 7 n (past 6 n (past 5 n (past 4 n (past 3 n (past 2 n (past 1 n (past 0 n (omega arith) (r .0 .0 .0 .0 .0 .0 .0 .0 .1)) (r .0 .0 .0 .0 .0 .0 .0 .1)) (r .0 .0 .0 .0 .0 .0 .1)) (r .0 .0 .0 .0 .0 .1)) (r .0 .0 .0 .0 .1)) (r .0 .0 .0 .1)) (r .0 .0 .1)) (r .0 .1)) (r .1))
+    unknown-code n (past 8 n (past 7 n (past 6 n (past 5 n (past 4 n (past 3 n (past 2 n (past 1 n (past 0 n (λ a. omega arith))))))))) (c .match .rest))
 
 pub code-of-spec : {M : Type 1} → statement M
 unfolding code-of

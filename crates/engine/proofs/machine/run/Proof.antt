@@ -1,14 +1,15 @@
 -- Each turn keeps what the rest gives.
 use borrow.Author.Needs.{needs}
 use mathlib.Core.Path.{_≡_, refl, sym, _∙_}
+use mathlib.Core.Bool.{false}
 use mathlib.Core.List.{[]}
-use Prim.Native.Nat.{_-_, _≤_}
+use Prim.Native.Nat.{_+_, _-_, _≤_}
 use native.Mathlib.Omega.{arith}
-use lib.ListN.{length, drop, length-map}
+use lib.ListN.{length, drop, getD, length-map}
 use Rattle.lists.specs.declared.Step.the-variants.{Constant}
 use Rattle.engine.specs.Program.{instruction, no-constant, instructions-of, turns-of}
-use Rattle.engine.specs.Machine.{values-of, ran}
-use Rattle.engine.proofs.Running.{Going, going-enough, going-room, going-refused, going-put, going-end}
+use Rattle.engine.specs.Machine.{values-of, way-after, ran}
+use Rattle.engine.proofs.Running.{Going, Turn, turn, going-put, going-end}
 use Rattle.engine.proofs.machine.run.Statement.{statement}
 use Rattle.engine.proofs.machine.run.Tie as tie
 
@@ -24,55 +25,37 @@ sizes c =
     let f : length (c .args .t1 .turns) ≡ 64 = search needs in
     (omega (arith, c .pre .steps), omega (arith, c .pre .steps))
 
+abbrev Next : tie.In-loop Inv-loop μ-loop → Type 0
+Next c =
+    let p = c .before .before .before .args .t1 in
+    let l = c .before .loop in
+    Turn (l .k) (l .stack .depth) (way-after (getD (p .turns) (l .k) false) (l .way)) (getD (p .instructions) (l .k) (instruction Constant no-constant))
+    (drop (l .k + 1) (instructions-of p)) (drop (l .k + 1) (turns-of p)) (values-of (l .stack)) (ran 0 (c .before .before .before .args .rounding) (instructions-of p) (turns-of p) [])
+
+next : (c : tie.In-loop Inv-loop μ-loop) → Next c
+next c =
+    let p = c .before .before .before .args .t1 in
+    let l = c .before .loop in
+    let z = sizes (c .before .before .before) in
+    turn (p .count) (l .k) (p .instructions) (p .turns) (z .0) (z .1) _ _ _ _ (l .inv .2) _ (omega arith)
+
+-- ---- the needs
 loop-holds : tie.Need-loop-holds Inv-loop μ-loop
-loop-holds c =
-    rw (c .new .ensures) (omega arith, omega arith, record { fits = c .before .pre .values; rest = refl })
-
-step-answer-requires : tie.Need-step-answer-requires Inv-loop μ-loop
-step-answer-requires c κs =
-    let s = c .before .before .before .before .before .before in
-    let p = s .args .t1 in
-    let l = c .before .before .before .before .loop in
-    let z = sizes s in
-    (going-enough (p .count) (l .k) (p .instructions) (p .turns) (z .0) (z .1) _ _ _ _ (l .inv .2) _ (omega arith), omega arith)
-
-sub-put : tie.Need-sub-put Inv-loop μ-loop
-sub-put c =
-    let s = c .before .before .before .before .before .before .before .before .before .before .before .before in
-    let p = s .args .t1 in
-    let l = c .before .before .before .before .before .before .before .before .before .before .loop in
-    let z = sizes s in
-    rw (c .before .taken .ensures) (going-enough (p .count) (l .k) (p .instructions) (p .turns) (z .0) (z .1) _ _ _ _ (l .inv .2) _ (omega arith))
+loop-holds c = rw (c .new .ensures) (omega arith, omega arith, record { fits = c .before .pre .values; rest = refl })
 
 put-requires : tie.Need-put-requires Inv-loop μ-loop
-put-requires c κs =
-    let s = c .before .before .before .before .before .before .before .before .before .before .before .before in
-    let p = s .args .t1 in
-    let l = c .before .before .before .before .before .before .before .before .before .before .loop in
-    let z = sizes s in
-    let h = going-room (p .count) (l .k) (p .instructions) (p .turns) (z .0) (z .1) _ _ _ _ (l .inv .2) (instruction Constant no-constant) (omega arith) in
-    omega (arith, c .before .taken .ensures, h)
+put-requires c κs = omega (arith, c .before .taken .ensures, next (c .before .before .before .before .before .before .before .before .before) .room)
 
 returns : tie.Need-returns Inv-loop μ-loop
 returns c =
-    let s = c .before .before .before .before .before .before .before .before .before .before in
-    let p = s .args .t1 in
-    let l = c .before .before .before .before .before .before .before .before .loop in
-    let z = sizes s in
-    going-refused (p .count) (l .k) (p .instructions) (p .turns) (z .0) (z .1) _ _ _ _ (l .inv .2) _ _ (omega arith)
-    (sym (rw (c .before .answer2 .given .1, c .before .before .before .before .turned .ensures) at (c .before .before .before .step-answer .ensures)))
+    next (c .before .before .before .before .before .before .before) .refused _
+    (rw (c .before .answer2 .given .1, c .before .before .before .before .turned .ensures) at (c .before .before .before .step-answer .ensures))
 
 loop-again : tie.Need-loop-again Inv-loop μ-loop
 loop-again c =
-    let s = c .before .before .before .before .before .before .before .before .before .before .before .before .before in
-    let p = s .args .t1 in
-    let l = c .before .before .before .before .before .before .before .before .before .before .before .loop in
-    let z = sizes s in
-    let r = c .put .result in
-    let q =
-    going-put (p .count) (l .k) (p .instructions) (p .turns) (z .0) (z .1) _ _ (l .stack .items) _ (l .inv .2) _ (omega arith) _ _ _ (r .depth) (r .items)
-    (c .before .before .before .before .before .before .before .turned .ensures) (c .before .before .taken .ensures) (rw (c .before .before .before .before .answer .given .1) at (c .before .before .before .before .before .before .step-answer .ensures)) (c .put .ensures) in
-    (omega arith, q .0, q .1)
+    let q = going-put (c .before .before .before .before .before .before .before .before .before .before .before .loop .stack .items) (next (c .before .before .before .before .before .before .before .before .before .before)) _ _ (c .put .result .depth) (c .put .result .items) (c .before .before .taken .ensures)
+    (rw (c .before .before .before .before .answer .given .1, c .before .before .before .before .before .before .before .turned .ensures) at (c .before .before .before .before .before .before .step-answer .ensures)) (c .put .ensures) in
+    (omega arith, q .0, rw (c .before .before .before .before .before .before .before .turned .ensures) (q .1))
 
 returns-2 : tie.Need-returns-2 Inv-loop μ-loop
 returns-2 c =
@@ -80,12 +63,13 @@ returns-2 c =
     let p = s .args .t1 in
     let l = c .before .before .loop in
     let z = sizes s in
-    let e = going-end (p .count) (l .k) (p .instructions) (p .turns) (z .0) (z .1) _ _ _ _ (l .inv .2) (instruction Constant no-constant) (omega arith) in
+    let e = going-end (p .count) (l .k) (p .instructions) (p .turns) (z .0) (z .1) _ _ _ _ (l .inv .2) (omega arith) in
     rw (c .item .ensures) (rw (e .0) at (e .1))
 
 pub run-spec : {M : Type 1} → statement M
 run-spec =
     tie.close
     (tie.spec Inv-loop μ-loop (λ c κs. search needs) loop-holds (λ c. search needs) (λ c. search needs) (λ c. search needs) (λ c κs. search needs)
-    step-answer-requires (λ c. search needs) (λ c κs. search needs) sub-put put-requires (λ c. search needs) returns (λ c. search needs)
-    (λ c. search needs) loop-again (λ c κs. search needs) returns-2)
+    (λ c κs. (next (c .before .before .before) .enough, omega arith)) (λ c. search needs) (λ c κs. search needs)
+    (λ c. rw (c .before .taken .ensures) (next (c .before .before .before .before .before .before .before .before .before) .enough)) put-requires (λ c. search needs) returns (λ c. search needs) (λ c. search needs) loop-again
+    (λ c κs. search needs) returns-2)
