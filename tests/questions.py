@@ -4,16 +4,80 @@ import struct
 import reference
 from reference import GREATEST
 
+# ---- library_test: lists are made of these
+
+def const(l, u=None):
+    return b'\0' + struct.pack('<ii', l, l if u is None else u)
+
+
+SUM, DIFF, MUL, NEG, OPP, DUAL, JOIN, MEET = (bytes([code]) for code in range(1, 9))
+ONE, SOME = const(1000), const(1001)
+MANY = const(GREATEST) * 2
+WIDE = const(0, 1001) + const(0, 1998001999)  # their product's exact upper end lies between 2000000.000 and 2000000.001
+A, B, C, D = const(11000, 9000), const(4000, 2000), const(2300, 1500), const(-7500, -3100)  # of source document 000, In[74]
+
+
+def list_question(way, data):
+    return '%s list %s' % (way, data.hex(' '))
+
+
+# ---- library_test: what the papers say, with the answer that they give; tests/expected holds the reference to it
+
+PAPERS = f'''\
+# Document 01, "Values to meet"; both ways where it names none
+O product 1001 1001 1001 1001 = 1002 1003
+I product 1001 1001 1001 1001 = 1003 1002
+O product -1000 2000 -3000 4000 = -6000 8000
+I product -1000 2000 -3000 4000 = -6000 8000
+O product 2000 -1000 4000 -3000 = 8000 -6000
+I product 2000 -1000 4000 -3000 = 8000 -6000
+O product -1000 2000 4000 -3000 = 0 0
+I product -1000 2000 4000 -3000 = 0 0
+O product 1000 2000 4000 -3000 = 4000 -3000
+I product 1000 2000 4000 -3000 = 4000 -3000
+O product -1 -1 1 1 = -1 0
+I product -1 -1 1 1 = 0 -1
+O quotient -1000 -1000 3000 3000 = -334 -333
+O equation 0 0 2000 4000 6000 8000 = 3000 2000
+I equation 0 0 2000 4000 6000 8000 = 3000 2000
+O equation 0 0 2000 4000 -4000 8000 = -1000 2000
+I equation 0 0 2000 4000 -4000 8000 = -1000 2000
+O difference 2000 5000 5000 2000 = 0 0
+I difference 2000 5000 5000 2000 = 0 0
+# 1.001, 1.001, product, dual
+{list_question('O', SOME + SOME + MUL + DUAL)} = 1002 1003
+# Values that are not starred
+O product 2000000 2000000 1000000 1000000 = 2000000000 2000000000
+O product 2000000 2000000 1000001 1000001 = R 4
+O sum 2000000000 2000000000 1 1 = R 4
+O quotient 1000 2000 1 1 = 1000000 2000000
+O quotient 1000 2000 0 1 = R 5
+read [9999999.000,0.000] = R 2
+read [10000000.000,0.000] = R 1
+# 16 constants 1 and 15 sums; 17 constants; 1 and 63 negations; 1 and 64 negations
+{list_question('O', ONE * 16 + SUM * 15)} = 16000 16000
+{list_question('O', ONE * 17)} = R 9 16
+{list_question('O', ONE + NEG * 63)} = -1000 -1000
+{list_question('O', ONE + NEG * 64)} = R 10 64
+# Source document 000: Out[39], [59], [64], [68]; Out[119] as the directed solution; Out[123], refused here; Out[124]; Out[75] and [76]
+O meet -12000 -3000 4000 7000 = 4000 -3000
+O sum 2000 3000 5700 5700 = 7700 8700
+O difference 3100 -2000 -2000 3100 = 0 0
+O quotient -7300 -1000 -1000 -7300 = 1000 1000
+O equation 2000 3000 1000 1000 0 0 = -2000 -3000
+I equation 2000 3000 1000 1000 0 0 = -2000 -3000
+O equation 2000 3000 -1000 1000 0 0 = R 5
+O equation 5100 3000 -7200 -11500 1000 2000 = 86 570
+I equation 5100 3000 -7200 -11500 1000 2000 = 87 569
+# a (b + c) - dual d of In[74] both ways, and its dual from the duals
+{list_question('O', A + B + C + SUM + MUL + D + DUAL + DIFF)} = 76800 34600
+{list_question('I', A + B + C + SUM + MUL + D + DUAL + DIFF)} = 76800 34600
+{list_question('O', A + DUAL + B + DUAL + C + DUAL + SUM + MUL + D + DIFF + DUAL)} = 76800 34600
+'''
+
 # ---- library_test: operations
 
 OPERATIONS = '''\
-# Values to meet, those not starred
-O product 2000000 2000000 1000000 1000000
-O product 2000000 2000000 1000001 1000001
-O sum 2000000000 2000000000 1 1
-O quotient 1000 2000 1 1
-O quotient 1000 2000 0 1
-O quotient 1000 2000 1 0
 # The ends of the range, and one thousandth beyond them: 2, then 5, then 4.
 O sum -2000000000 2000000000 0 0
 O difference -2000000000 2000000000 2000000000 -2000000000
@@ -36,8 +100,6 @@ I equation 0 -2000001 1001 1001 0 2000000000
 O quotient 2000000000 2000000000 999 1000
 O quotient 1999999999 1999999999 1000 999
 # Down is towards minus infinity, also below zero; thousandths are the smallest.
-O product -1 -1 1 1
-I product -1 -1 1 1
 O product -1 1 -1 1
 I product -1 1 -1 1
 O product 1 -1 1 -1
@@ -48,6 +110,9 @@ I quotient -1 1 -3000 -3000
 O quotient 1000 2000 1000 2000
 O quotient -7000 -7000 2000 2000
 # A pair with a zero end holds zero, proper or improper.
+O quotient 1000 2000 1 0
+I quotient 1000 2000 0 1
+I equation 2000 3000 -1000 1000 0 0
 O product 0 5000 2000 3000
 O product 5000 0 2000 3000
 O product 0 5000 3000 2000
@@ -69,17 +134,7 @@ opposite 0 -2147483648
 dual 0 2000000001
 O join 2000000001 0 0 0
 O meet 0 0 0 -2000000001
-# Source document 000: Out[39], [59], [64], [68], [119] put right, [123], [124], the equations both ways; products of [137], [140], [141].
-O meet -12000 -3000 4000 7000
-O sum 2000 3000 5700 5700
-O difference 3100 -2000 -2000 3100
-O quotient -7300 -1000 -1000 -7300
-O equation 2000 3000 1000 1000 0 0
-I equation 2000 3000 1000 1000 0 0
-O equation 2000 3000 -1000 1000 0 0
-I equation 2000 3000 -1000 1000 0 0
-O equation 5100 3000 -7200 -11500 1000 2000
-I equation 5100 3000 -7200 -11500 1000 2000
+# Products of source document 000, Out[137], [140], [141]
 O product 4000 2000 0 1000
 O product 1000 -1000 0 1000
 O product 2000 4000 -750 750
@@ -95,10 +150,10 @@ O product 1000 -1000 -1500 1500
 READ_IN_FORM = [
     b'[1.002,1.003]', b'[-0.001,0.000]', b'[0.000,-0.001]', b'[0.999,1.000]', b'[20.600,6.500]', b'[-999999.999,1000000.000]',
     b'[1999999.999,-1999999.999]', b'[-2000000.000,2000000.000]', b'[2000000.001,0.000]', b'[0.000,-2000000.001]',
-    b'[9999999.000,0.000]', b'[0.000,-9999999.999]',
+    b'[0.000,-9999999.999]',
 ]
 READ_MALFORMED = [
-    b'[10000000.000,0.000]', b'[0.000,-10000000.000]', b'[9999999.000,x]', b'[-0.000,0.000]', b'[0.000,-0.000]', b'[00.500,0.000]',
+    b'[0.000,-10000000.000]', b'[9999999.000,x]', b'[-0.000,0.000]', b'[0.000,-0.000]', b'[00.500,0.000]',
     b'[0.000,00.000]', b'[0000000.000,0.000]', b'[.500,0.000]', b'[0.000,.500]', b'[+1.000,0.000]', b'[--1.000,0.000]',
     b'[1.00,0.000]', b'[1.0000,0.000]', b'[1.5,2]', b'[1,000.000]', b'', b'[', b'[]', b'[-,-]', b'[0.000,0.000', b'0.000,0.000]',
     b'(0.000,0.000)', b'[0.000;0.000]', b'[0.000,0.000,0.000]', b'[0.000,0.000]]', b'[0.000,0.000] ', b' [0.000,0.000]',
@@ -132,21 +187,10 @@ def texts():
 
 # ---- library_test: lists
 
-def const(l, u=None):
-    return b'\0' + struct.pack('<ii', l, l if u is None else u)
-
-
-SUM, DIFF, MUL, NEG, OPP, DUAL, JOIN, MEET = (bytes([code]) for code in range(1, 9))
-ONE, SOME = const(1000), const(1001)
-WIDE = const(0, 1001) + const(0, 1998001999)  # their product's exact upper end lies between 2000000.000 and 2000000.001
-A, B, C, D = const(11000, 9000), const(4000, 2000), const(2300, 1500), const(-7500, -3100)  # of source document 000, In[74]
-MANY = const(GREATEST) * 2
 LISTS = [
-    ('the starred value: 1.001, 1.001, product, dual', 'OI', [
-        SOME + SOME + MUL + DUAL,
-    ]),
-    ('the product alone; below opposite, negation, two duals', 'OI', [
+    ('a product alone; below dual, opposite, negation, two duals', 'OI', [
         SOME + SOME + MUL,
+        SOME + SOME + MUL + DUAL,
         SOME + SOME + MUL + OPP,
         SOME + SOME + MUL + NEG,
         SOME + SOME + MUL + DUAL + DUAL,
@@ -167,18 +211,8 @@ LISTS = [
         const(-12000, -3000) + const(4000, 7000) + JOIN,
         const(-12000, -3000) + const(4000, 7000) + MEET,
     ]),
-    ('source document 000, In[75]: a (b + c) - dual d, and In[76], its dual from the duals', 'OI', [
-        A + B + C + SUM + MUL + D + DUAL + DIFF,
-        A + DUAL + B + DUAL + C + DUAL + SUM + MUL + D + DIFF + DUAL,
-    ]),
-    ('sixteen waiting values pass; the next gives 9, first at step 16, last at step 63', 'O', [
-        ONE * 16 + SUM * 15,
-        ONE * 17,
+    ('9 at the last step', 'O', [
         ONE * 16 + NEG * 47 + ONE,
-    ]),
-    ('64 steps pass; the 65th gives 10', 'O', [
-        ONE + NEG * 63,
-        ONE + NEG * 64,
     ]),
     ('6 at the first and at the last step', 'O', [
         b'\x09',
@@ -245,10 +279,14 @@ LISTS = [
 def lists():
     for title, ways, group in LISTS:
         yield b'# ' + title.encode()
-        yield from ((way + ' list ' + data.hex(' ')).encode() for data in group for way in ways)
+        yield from (list_question(way, data).encode() for data in group for way in ways)
 
 
-QUESTIONS = OPERATIONS.encode() + b''.join(line + b'\n' for part in (texts(), lists()) for line in part)
+def papers():
+    return [line.split(' = ')[0].encode() for line in PAPERS.splitlines()]
+
+
+QUESTIONS = b''.join(line + b'\n' for part in (papers(), OPERATIONS.encode().splitlines(), texts(), lists()) for line in part)
 
 # ---- slip
 
