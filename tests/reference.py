@@ -284,9 +284,12 @@ def ends(pair):
 
 
 def written(pair, room):
-    behind = b'.' * (BUFFER - room)
-    answer = told(lambda: write_text(pair, room), lambda text: b'%d %s' % (len(text), text.ljust(room, b'#') + behind))
-    return answer + b' ' + b'#' * room + behind if answer.startswith(b'R') else answer
+    """What is told, and the whole buffer, each byte `#` before; only the first `room` bytes of it are lent."""
+    try:
+        text = write_text(pair, room)
+        return b'%d %s' % (len(text), text.ljust(BUFFER, b'#'))
+    except Refusal as refusal:
+        return b'R %d %s' % (refusal.number, b'#' * BUFFER)
 
 
 def answer(question):

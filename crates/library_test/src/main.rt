@@ -4,7 +4,7 @@
 //   O sum 1000 2000 -1 1        also difference, product, quotient, join, meet
 //   I equation 0 0 2000 4000 6000 8000
 //   read [1.000,2.000]
-//   write 27 1000 2000          into the front of 28 bytes, as many as said, each `#` at first; those behind are `.`
+//   write 27 1000 2000          into the first 27 of 28 bytes, all `#` before; the answer shows all 28
 //   O list 00 e8 03 00 00       the list's bytes
 // A refusal is `R` and its number, in a list also the step. A line that begins otherwise, as one with `#` does, is no question.
 mod numbers;
@@ -127,10 +127,8 @@ fn write_to(a: Interval, room: usize, buffer: &mut [u8]) {
 }
 
 fn write(line: &[u8]) {
-    let mut buffer = [b'.'; 28];
-    let room = numbers::size(line, 1);
-    numbers::mark(room, &mut buffer);
-    write_to(interval(line, 2, 3), room, &mut buffer);
+    let mut buffer = [b'#'; 28];
+    write_to(interval(line, 2, 3), numbers::size(line, 1), &mut buffer);
 }
 
 fn answer_rounded(line: &[u8], rounding: Rounding) {

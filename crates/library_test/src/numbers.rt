@@ -111,18 +111,6 @@ pub fn print(e: i32) {
     }
 }
 
-// `#` on the first `room` bytes.
-pub fn mark(room: usize, buffer: &mut [u8]) {
-    let mut i = 0;
-    while i < buffer.len() {
-        if room <= i {
-            return;
-        }
-        buffer[i] = b'#';
-        i += 1;
-    }
-}
-
 // Where the line ends that begins at `from`.
 pub fn line_end(text: &[u8], from: usize) -> usize
     requires { ⌜ from ≤ length (now text) ⌝ }
