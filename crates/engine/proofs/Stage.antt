@@ -14,7 +14,6 @@ use Rattle.lists.specs.declared.Step.{Step}
 use Rattle.lists.specs.declared.Step.the-variants.{Constant, One, Two}
 use Rattle.lists.specs.Steps.{code-of, takes, follows, constant-in}
 use Rattle.lists.specs.Lists.{Expression, stepped, at-end, read, answer}
-use Rattle.lists.specs.Causes.{Sound}
 use Rattle.lists.specs.Endings.{Passed, none, end-not-one, passed-within}
 use Rattle.lists.specs.Walk.{behind, admitted-at, Passes, walk-refused, walk-next, walk-end}
 use Rattle.engine.specs.declared.program.Instruction.{Instruction}

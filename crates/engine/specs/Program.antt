@@ -1,5 +1,5 @@
 -- A program in lists: the steps in order, at which of them the way turns, and where each waiting expression starts.
-use mathlib.Core.Bool.{Bool, true, false, not}
+use mathlib.Core.Bool.{Bool, false, not}
 use mathlib.Core.List.{List, [], _∷_, _++_}
 use Prim.Native.Nat.{ℕ, zero, suc, _+_}
 use lib.IntN.{pos}

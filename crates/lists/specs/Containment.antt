@@ -4,7 +4,6 @@ use mathlib.Core.Path.{_≡_}
 use mathlib.Core.List.{List, []}
 use Prim.Native.Nat.{ℕ}
 use Rattle.directed.specs.declared.Rounding.{Rounding}
-use Rattle.directed.specs.Exact.{Exact}
 use Rattle.directed.specs.Thousandths.{Pair, exact}
 use Rattle.directed.specs.Tightest.{Toward}
 use Rattle.directed_laws.specs.Isotone.{unary-isotone, binary-isotone}

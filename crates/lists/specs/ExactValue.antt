@@ -43,7 +43,7 @@ NoQuotient (constant k p) = Unit {0}
 NoQuotient (one k f a) = NoQuotient a
 NoQuotient (two k g a b) = NoQuotient a × NoQuotient b × (divides g ≡ false)
 
-unstopped : (g : Binary) (s : Sort) → divides g ≡ false → stop g s ≡ sound
+pub unstopped : (g : Binary) (s : Sort) → divides g ≡ false → stop g s ≡ sound
 unfolding stop
 unstopped Sum s e = refl
 unstopped Difference s e = refl

@@ -1,5 +1,5 @@
 -- What a test says of every row of the table of codes holds of what a code stands for, however many rows there are.
-use mathlib.Core.Path.{_≡_, refl, sym}
+use mathlib.Core.Path.{_≡_, refl}
 use mathlib.Core.Bool.{Bool, true, false, _&&_}
 use mathlib.Core.List.{List, [], _∷_, map}
 use Prim.Native.Nat.{ℕ, zero, suc, _+_}
@@ -7,7 +7,6 @@ use native.Mathlib.Nat.{add-zero}
 use native.Mathlib.Omega.{arith}
 use lib.ListN.{getD}
 use Rattle.lists.specs.declared.Step.{Step}
-use Rattle.lists.specs.declared.Code.{Code}
 use Rattle.lists.specs.declared.Code.the-variants.{Known, Unknown}
 use Rattle.lists.specs.Steps.{codes, code-of}
 

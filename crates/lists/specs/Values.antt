@@ -1,6 +1,6 @@
 -- Demand 2: "An expression's value is that of its steps, each so rounded in the way it is wanted": said without rounding, and proved of what an
 -- expression is evaluated to.
-use mathlib.Core.Path.{_≡_, refl, sym}
+use mathlib.Core.Path.{_≡_, refl}
 use mathlib.Core.Bool.{false}
 use mathlib.Core.List.{List, [], _∷_, _++_}
 use mathlib.Core.Logic.{_↔_}
@@ -18,7 +18,7 @@ use Rattle.directed_laws.specs.Fraction.{≈-refl}
 use Rattle.directed_laws.specs.Rounding.{rounded-tightest, tightest-unique}
 use Rattle.directed_laws.specs.Thousandths.{unary-rounded}
 use Rattle.directed_laws.specs.Operations.{unary-made, binary-made}
-use Rattle.lists.specs.Lists.{Result, value, at, after, Expression, constant, one, two, evaluated}
+use Rattle.lists.specs.Lists.{value, at, after, Expression, constant, one, two, evaluated}
 use Rattle.lists.specs.Results.{at-value, came}
 use Rattle.lists.specs.Ways.{Wanted, wanted, wants}
 

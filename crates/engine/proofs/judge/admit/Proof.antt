@@ -1,5 +1,5 @@
 -- 10 comes before 6, and 6 before the causes of a known step.
-use mathlib.Core.Path.{_≡_, sym, _∙_}
+use native.Mathlib.Omega.{arith}
 use Rattle.lists.specs.Lists.{admitted}
 use borrow.Author.Tests.{lt-ltb, le-ltb}
 use borrow.Author.Needs.{needs}
@@ -7,18 +7,20 @@ use Rattle.engine.proofs.judge.admit.Statement.{statement}
 use Rattle.engine.proofs.judge.admit.Tie as tie
 
 returns : tie.Need-returns
-returns c = rw (le-ltb _ _ (c .if1 .taken))
+returns c = let a = c .before .before .args in rw (le-ltb (a .number) (a .steps) (omega arith))
 
 returns-2 : tie.Need-returns-2
 returns-2 c =
     let k = c .before .before .before .before in
-    rw (lt-ltb _ _ (k .before .if1 .left), ← k .code-of .ensures, c .before .before .code .given .1) (c .admit-step .ensures)
+    let a = k .before .before .before .args in
+    rw (lt-ltb (a .number) (a .steps) (omega arith), ← k .code-of .ensures, c .before .before .code .given .1) (c .admit-step .ensures)
 
 returns-3 : tie.Need-returns-3
 unfolding admitted
 returns-3 c =
     let k = c .before .before in
-    rw (lt-ltb _ _ (k .before .if1 .left), ← k .code-of .ensures, c .enum-told .given .1)
+    let a = k .before .before .before .args in
+    rw (lt-ltb (a .number) (a .steps) (omega arith), ← k .code-of .ensures, c .enum-told .given .1)
 
 pub admit-spec : {M : Type 1} → statement M
 admit-spec =
