@@ -1,13 +1,14 @@
 -- Exchange of ends: exchange the ends of every constant of a list and put meet for join and join for meet, and its outward answer is the dual of
 -- the former inward answer, or both are refused alike, with the same number and step; and with the ways exchanged.
 use mathlib.Core.Path.{_≡_, refl, sym, ap, _∙_}
-use mathlib.Core.Bool.{Bool, true, false, _||_}
+use mathlib.Core.Bool.{Bool, true, false, true≢false}
 use mathlib.Core.List.{List, [], _∷_, map}
 use Prim.Native.Nat.{ℕ, zero, suc}
 use native.Mathlib.Omega.{arith}
 use lib.Dec.{eqb}
-use lib.ListN.{length, drop, length-map}
-use borrow.Author.Tests.{le-ltb, eqb-true}
+use lib.ListN.{length, drop, getD, set, length-map, List·getD-map}
+use lib.Seq.{getD-set-other}
+use borrow.Author.Tests.{le-ltb, eqb-true, eqb-false}
 use Rattle.directed.specs.declared.Rounding.{Rounding}
 use Rattle.directed.specs.declared.Rounding.the-variants.{Outward, Inward}
 use Rattle.directed.specs.declared.Unary.{Unary}
@@ -25,7 +26,7 @@ use Rattle.lists.specs.declared.Step.{Step}
 use Rattle.lists.specs.declared.Step.the-variants.{Constant, One, Two}
 use Rattle.lists.specs.declared.Code.{Code}
 use Rattle.lists.specs.declared.Code.the-variants.{Known, Unknown}
-use Rattle.lists.specs.Steps.{code-of, follows, constant-in}
+use Rattle.lists.specs.Steps.{codes, code-of, follows, constant-in}
 use Rattle.lists.specs.Lists.{Result, value, refusal, at, after, judgement, admitted, Expression, constant, one, two, stepped, at-end, read, evaluated, answer}
 use Rattle.lists.specs.Table.{of-code}
 
@@ -112,65 +113,38 @@ evaluated-exchange w (constant k p) = refl
 evaluated-exchange w (one k f a) = rw (under-other f w, evaluated-exchange (under f w) a) (after-one k f (evaluated (under f w) a))
 evaluated-exchange w (two k g a b) = rw (evaluated-exchange w a, evaluated-exchange w b) (after-two k w g (evaluated w a) (evaluated w b))
 
--- ---- a code other than 0: no bytes follow it, and it is 7 or 8, or its step is its own exchange
-is-own : Step → Bool
-is-own Constant = true
-is-own (One f) = true
-is-own (Two Sum) = true
-is-own (Two Difference) = true
-is-own (Two Product) = true
-is-own (Two Quotient) = true
-is-own (Two Join) = false
-is-own (Two Meet) = false
-
-own-is : (s : Step) → is-own s ≡ true → exchange-step s ≡ s
-unfolding is-own
-own-is Constant e = refl
-own-is (One f) e = refl
-own-is (Two Sum) e = refl
-own-is (Two Difference) e = refl
-own-is (Two Product) e = refl
-own-is (Two Quotient) e = refl
-own-is (Two Join) e = cc
-own-is (Two Meet) e = cc
-
-own-but : ℕ → Step → Bool
-own-but n s = eqb n 7 || (eqb n 8 || is-own s)
-
--- no bytes follow a step
-is-plain : Step → Bool
-is-plain Constant = false
-is-plain (One f) = true
-is-plain (Two g) = true
-
-plain-but : ℕ → Step → Bool
-plain-but zero s = true
-plain-but (suc n) s = is-plain s
-
-plain-code : (c : ℕ) (s : Step) → code-of (suc c) ≡ Known s → is-plain s ≡ true
-unfolding plain-but is-plain
-plain-code c s e = of-code plain-but refl (suc c) e
-
+-- ---- a code: the table of the exchanged steps is the table with rows 7 and 8 exchanged
 abbrev exchange-known : Code → Code
 exchange-known (Known s) = Known (exchange-step s)
 exchange-known Unknown = Unknown
 
-own-code : (c : ℕ) → eqb c 7 ≡ false → eqb c 8 ≡ false → code-of c ≡ exchange-known (code-of c)
-unfolding own-but is-own
-own-code c h k = go (code-of c) refl
-  where
-    go : (x : Code) → code-of c ≡ x → x ≡ exchange-known x
-    go Unknown e = refl
-    go (Known s) e = ap Known (sym (own-is s (rw (h, k) at (of-code own-but refl c e))))
+rows-exchange : map exchange-known (map Known codes) ≡ set (set (map Known codes) 7 (Known (Two Meet))) 8 (Known (Two Join))
+rows-exchange = refl
 
 code-exchange : (c : ℕ) → code-of (exchange-code c) ≡ exchange-known (code-of c)
 unfolding code-of
-code-exchange c = go (eqb c 7) (eqb c 8) refl refl
+code-exchange c = go (eqb c 7) (eqb c 8) refl refl ∙ ap (λ l. getD l c Unknown) (sym rows-exchange) ∙ List·getD-map exchange-known (map Known codes) c Unknown
   where
-    go : (x y : Bool) → eqb c 7 ≡ x → eqb c 8 ≡ y → code-of (if x then 8 else (if y then 7 else c)) ≡ exchange-known (code-of c)
+    go : (x y : Bool) → eqb c 7 ≡ x → eqb c 8 ≡ y
+        → getD (map Known codes) (if x then 8 else (if y then 7 else c)) Unknown ≡ getD (set (set (map Known codes) 7 (Known (Two Meet))) 8 (Known (Two Join))) c Unknown
     go true y h k = rw (eqb-true c 7 h)
     go false true h k = rw (eqb-true c 8 k)
-    go false false h k = own-code c h k
+    go false false h k =
+        sym
+        (getD-set-other (set (map Known codes) 7 (Known (Two Meet))) 8 c (Known (Two Join)) Unknown (eqb-false c 8 k)
+        ∙ getD-set-other (map Known codes) 7 c (Known (Two Meet)) Unknown (eqb-false c 7 h))
+
+-- bytes follow code 0 alone
+is-plain : Step → Bool
+is-plain s = eqb (follows s) 0
+
+plain-but-0 : ℕ → Step → Bool
+plain-but-0 zero s = true
+plain-but-0 (suc n) s = is-plain s
+
+plain-code : (c : ℕ) (s : Step) → code-of (suc c) ≡ Known s → is-plain s ≡ true
+unfolding plain-but-0 is-plain
+plain-code c s e = of-code plain-but-0 refl (suc c) e
 
 -- ---- reading
 unless-exchange : (j : Judgement) (k : ℕ) (s s′ : Step) (f g : Step → Result Expression) → f s′ ≡ exchange-reading (g s)
@@ -178,45 +152,37 @@ unless-exchange : (j : Judgement) (k : ℕ) (s s′ : Step) (f g : Step → Resu
 unless-exchange sound k s s′ f g e = e
 unless-exchange (cause n) k s s′ f g e = refl
 
-module _ (v l k : ℕ) (r q : List ℕ) (ts : List Expression) where
-  judgement-exchange : (d : ℕ) (s : Step) → is-plain s ≡ true → judgement v d (exchange-step s) q ≡ judgement v d s r
-  unfolding judgement is-plain
-  judgement-exchange d Constant e = cc
-  judgement-exchange d (One f) e = rw (le-ltb (length q) 0 (omega arith), le-ltb (length r) 0 (omega arith))
-  judgement-exchange d (Two g) e = rw (le-ltb (length q) 0 (omega arith), le-ltb (length r) 0 (omega arith))
+one-exchange : (k : ℕ) (f : Unary) (r q : List ℕ) (ts : List Expression) → stepped k (One f) q (map exchange-tree ts) ≡ map exchange-tree (stepped k (One f) r ts)
+unfolding exchange-tree
+one-exchange k f r q [] = refl
+one-exchange k f r q (a ∷ ts) = refl
 
-  stepped-exchange : (s : Step) → is-plain s ≡ true → stepped k (exchange-step s) q (map exchange-tree ts) ≡ map exchange-tree (stepped k s r ts)
-  unfolding exchange-tree is-plain
-  stepped-exchange Constant e = cc
-  stepped-exchange (One f) e = go ts
-    where
-      go : (ts : List Expression) → stepped k (One f) q (map exchange-tree ts) ≡ map exchange-tree (stepped k (One f) r ts)
-      go [] = refl
-      go (a ∷ ts) = refl
-  stepped-exchange (Two g) e = go ts
-    where
-      go : (ts : List Expression) → stepped k (Two (dual-of g)) q (map exchange-tree ts) ≡ map exchange-tree (stepped k (Two g) r ts)
-      go [] = refl
-      go (b ∷ []) = refl
-      go (b ∷ a ∷ ts) = refl
+two-exchange : (k : ℕ) (g : Binary) (r q : List ℕ) (ts : List Expression) → stepped k (Two (dual-of g)) q (map exchange-tree ts) ≡ map exchange-tree (stepped k (Two g) r ts)
+unfolding exchange-tree
+two-exchange k g r q [] = refl
+two-exchange k g r q (b ∷ []) = refl
+two-exchange k g r q (b ∷ a ∷ ts) = refl
 
-  plain-follows : (s : Step) → is-plain s ≡ true → (follows s ≡ 0) × (follows (exchange-step s) ≡ 0)
-  unfolding is-plain
-  plain-follows Constant e = (cc, cc)
-  plain-follows (One f) e = (refl, refl)
-  plain-follows (Two g) e = (refl, refl)
+judgement-exchange : (v d : ℕ) (r q : List ℕ) (s : Step) → is-plain s ≡ true → judgement v d (exchange-step s) q ≡ judgement v d s r
+unfolding judgement is-plain
+judgement-exchange v d r q Constant e = cc
+judgement-exchange v d r q (One f) e = rw (le-ltb (length q) 0 (omega arith), le-ltb (length r) 0 (omega arith))
+judgement-exchange v d r q (Two g) e = rw (le-ltb (length q) 0 (omega arith), le-ltb (length r) 0 (omega arith))
 
-  -- a step other than a constant, where what follows it is exchanged
-  plain-exchange : (c : Code) → ((s : Step) → c ≡ Known s → is-plain s ≡ true)
-      → ((s : Step) → read v l (suc k) (map exchange-tree (stepped k s r ts)) q ≡ exchange-reading (read v l (suc k) (stepped k s r ts) r))
-      → after (at k (admitted v (length ts) (exchange-known c) q)) (λ s. read v l (suc k) (stepped k s q (map exchange-tree ts)) (drop (follows s) q))
-      ≡ exchange-reading (after (at k (admitted v (length ts) c r)) λ s. read v l (suc k) (stepped k s r ts) (drop (follows s) r))
-  unfolding admitted
-  plain-exchange Unknown plain ih = refl
-  plain-exchange (Known s) plain ih =
-      let p = plain s refl in
-      let f = plain-follows s p in
-      rw (judgement-exchange (length ts) s p) (unless-exchange (judgement v (length ts) s r) k s (exchange-step s) _ _ (rw (f .0, f .1, stepped-exchange s p) (ih s)))
+-- a step other than a constant, where what follows it is exchanged
+plain-exchange : (v l k : ℕ) (r q : List ℕ) (ts : List Expression) (c : Code) → ((s : Step) → c ≡ Known s → is-plain s ≡ true)
+    → ((s : Step) → read v l (suc k) (map exchange-tree (stepped k s r ts)) q ≡ exchange-reading (read v l (suc k) (stepped k s r ts) r))
+    → after (at k (admitted v (length ts) (exchange-known c) q)) (λ s. read v l (suc k) (stepped k s q (map exchange-tree ts)) (drop (follows s) q))
+    ≡ exchange-reading (after (at k (admitted v (length ts) c r)) λ s. read v l (suc k) (stepped k s r ts) (drop (follows s) r))
+unfolding admitted is-plain
+plain-exchange v l k r q ts Unknown plain ih = refl
+plain-exchange v l k r q ts (Known Constant) plain ih = absurd (true≢false (sym (plain Constant refl)))
+plain-exchange v l k r q ts (Known (One f)) plain ih =
+    rw (judgement-exchange v (length ts) r q (One f) refl)
+    (unless-exchange (judgement v (length ts) (One f) r) k (One f) (One f) _ _ (rw (one-exchange k f r q ts) (ih (One f))))
+plain-exchange v l k r q ts (Known (Two g)) plain ih =
+    rw (judgement-exchange v (length ts) r q (Two g) refl)
+    (unless-exchange (judgement v (length ts) (Two g) r) k (Two g) (Two (dual-of g)) _ _ (rw (two-exchange k g r q ts) (ih (Two g))))
 
 constant-exchange : (v n a b c d e f g h : ℕ) (r q : List ℕ)
     → judgement v n Constant (e ∷ f ∷ g ∷ h ∷ a ∷ b ∷ c ∷ d ∷ q) ≡ judgement v n Constant (a ∷ b ∷ c ∷ d ∷ e ∷ f ∷ g ∷ h ∷ r)
