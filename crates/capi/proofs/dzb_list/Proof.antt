@@ -1,7 +1,7 @@
 -- `capi::dzb_list` gives the answer of `engine::evaluate`, whose steps are at most 64.
 use borrow.Author.Needs.{needs}
 use mathlib.Core.Path.{sym, _∙_}
-use Rattle.lists.specs.StepLaws.{step-within}
+use Rattle.lists.specs.Within.{step-within}
 use Rattle.capi.proofs.Shared.{effect-same}
 use Rattle.capi.proofs.dzb_list.Statement.{statement}
 use Rattle.capi.proofs.dzb_list.Tie as tie
