@@ -6,7 +6,7 @@
 //   read [1.000,2.000]
 //   write 27 1000 2000          into the first 27 of 28 bytes, all `#` before; the answer shows all 28
 //   O list 00 e8 03 00 00       the list's bytes
-// A refusal is `R` and its number, in a list also the step. A line that begins otherwise, as one with `#` does, is no question.
+// A refusal is `R` and its number, in a list also the step. A line that begins with `#` is no question.
 mod numbers;
 
 use directed::Answer;
@@ -19,8 +19,6 @@ use libc::STDIN_FILENO;
 use libc::STDOUT_FILENO;
 use lists::ListAnswer;
 use text::Written;
-ghost use Prim.Native.Nat.{_+_, _≤_};
-ghost use lib.ListN.{length};
 
 fn show(bytes: &[u8]) {
     io::write_all(STDOUT_FILENO, bytes);
