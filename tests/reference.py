@@ -60,6 +60,7 @@ def units(a):
 
 
 def rounded(way, a):
+    """Outward: the lower end down, the upper end up; inward the reverse. Down is towards minus infinity."""
     low, high = (1000 * e for e in a)
     return (math.floor(low), math.ceil(high)) if way == OUTWARD else (math.ceil(low), math.floor(high))
 
@@ -96,25 +97,27 @@ def difference(a, b):
 
 def product(a, b):
     s, r = sign(a), sign(b)
-    if s and r:
+    if s and r:  # "both zero-free": indices -s(b) and -s(a), then s(b) and s(a)
         return (at(a, -r) * at(b, -s), at(a, r) * at(b, s))
-    if s:
+    if s:  # "a zero-free with sign d, b holding zero": a's index is d t(b), b's are -d and d
         factor = at(a, s * direction(b))
         return (factor * at(b, -s), factor * at(b, s))
-    if r:
+    if r:  # "With the roles changed, the same."
         return product(b, a)
-    low, high = min(a[0] * b[1], a[1] * b[0]), max(a[0] * b[0], a[1] * b[1])
-    if proper(a) != proper(b):
+    if proper(a) != proper(b):  # "one of each"
         return (Fraction(0), Fraction(0))
+    low, high = min(a[0] * b[1], a[1] * b[0]), max(a[0] * b[0], a[1] * b[1])
     return (low, high) if proper(a) else (high, low)
 
 
 def quotient(a, b):
+    """a times [1/b+, 1/b-]."""
     refuse(5, not sign(b))
     return product(a, (1 / b[1], 1 / b[0]))
 
 
 def equation(a, c, b):
+    """The x of a + c x = b: (b - dual a) / dual c."""
     refuse(5, not sign(c))
     return quotient(difference(b, dual(a)), dual(c))
 
@@ -128,7 +131,7 @@ OPERATIONS = {
 
 
 def unjudged(way, name, pairs):
-    """5, then 4: a value waiting in a list is not judged by 2 again."""
+    """5, then 4; this is all that a step of a list judges, since values that wait are in range."""
     result = rounded(way, OPERATIONS[name][1](*map(units, pairs)))
     refuse(4, beyond(result))
     return result
@@ -185,7 +188,7 @@ def expression(data, values=VALUES, steps=STEPS):
 
 
 def wanted(read, way):
-    """The way in which each step is wanted: from the last step back, turned below a dual or opposite step."""
+    """The way in which each step is wanted: the last as asked, an operand as its step is, but turned by dual and opposite."""
     ways = {len(read) - 1: way}
     for step in reversed(range(len(read))):
         name, taken = read[step]
@@ -196,6 +199,7 @@ def wanted(read, way):
 
 
 def evaluate(way, data, values=VALUES, steps=STEPS):
+    """Each step once, in the way it is wanted: the first that is refused is the earliest."""
     read = expression(data, values, steps)
     ways, made = wanted(read, way), []
     for step, (name, taken) in enumerate(read):
