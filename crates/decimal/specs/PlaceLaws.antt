@@ -87,17 +87,18 @@ wrote-then {t} {u} {d} {l₁} {l₂} {at} {i} {j} h a b = record {
 }
 
 -- into a part `&mut d[at..at + k]` that came back as l
-pub wrote-lent : (t d l : List ℕ) (at k n : ℕ) → at + k ≤ length d → length t ≤ k → n ≡ length t → l ≡ over t (take k (drop at d))
+pub wrote-lent : {t d l : List ℕ} {at k n : ℕ} → at + k ≤ length d → length t ≤ k → Wrote t 0 (take k (drop at d)) n l
     → Wrote t at d (at + n) (take at d ++ (l ++ drop k (drop at d)))
-unfolding put over
-wrote-lent t d l at k n h ht en el =
+unfolding put
+wrote-lent {t} {d} {l} {at} {k} {n} h ht w =
     let x = drop at d in
     let m : length t ≤ length (take k x) = simp (length-take, length-drop) (omega arith) in
     let r : drop (length t) (take k x) ++ drop k x ≡ drop (at + length t) d =
     sym (drop-append-le (length t) (take k x) (drop k x) m) ∙ ap (drop (length t)) (take-append-drop k x) ∙ drop-drop (length t) at d in
+    let z : l ≡ t ++ drop (length t) (take k x) = w .buffer-is ∙ ap (λ i. t ++ drop i (take k x)) (zero-add (length t)) in
     record {
-      next-is = ap (λ i. at + i) en;
-      buffer-is = ap (λ y. take at d ++ y) (ap (λ y. y ++ drop k x) el ∙ append-assoc t (drop (length t) (take k x)) (drop k x) ∙ ap (λ y. t ++ y) r);
+      next-is = ap (λ i. at + i) (w .next-is ∙ zero-add (length t));
+      buffer-is = ap (λ y. take at d ++ y) (ap (λ y. y ++ drop k x) z ∙ append-assoc t (drop (length t) (take k x)) (drop k x) ∙ ap (λ y. t ++ y) r);
     }
 
 -- The same where t finds room; nothing is said where it does not. So parts are put together first, and room is asked for once.

@@ -1,4 +1,4 @@
--- A pair's text has no space: so where one was read, up to a space or the end, its field ends. Assumes nothing.
+-- A pair's text has no space: so where one was read, up to a space or the end, its field ends.
 use mathlib.Core.Path.{_≡_, refl, sym, ap, _∙_}
 use mathlib.Core.Bool.{Bool, true, false, cond}
 use mathlib.Core.List.{List, [], _∷_, _++_}
@@ -11,9 +11,11 @@ use lib.ListN.{length, take, drop, drop-of-length-le}
 use lib.Seq.{drop-drop}
 use borrow.Author.Tests.{ne-eqb}
 use Rattle.directed.specs.declared.Interval.{Interval}
-use Rattle.directed.specs.Answer.{Outcome, value}
-use Rattle.text.specs.Digits.{digits, decimal}
-use Rattle.text.specs.DigitLaws.{All-digits, digit-bounds, digits-all, decimal-all}
+use Rattle.directed.specs.Thousandths.{Pair}
+use Rattle.directed.specs.Lift.{pair-of}
+use Rattle.directed.specs.Answer.{Outcome, value, built}
+use Rattle.decimal.specs.Digits.{digits, decimal}
+use Rattle.decimal.specs.DigitLaws.{All-digits, digit-bounds, digits-all, decimal-all}
 use Rattle.text.specs.Text.{text, end-text, sign-text, size-text}
 use Rattle.text.specs.Answer.{read}
 use Rattle.text.specs.RoundTrip.{text-reads-only}
@@ -21,6 +23,7 @@ use Rattle.lines.specs.declared.PairSeen.{PairSeen}
 use Rattle.lines.specs.declared.PairSeen.the-variants.{Found, Unsure}
 use Rattle.lines.specs.Scan.{absent, position, position-block}
 use Rattle.lines.specs.Line.{two, three}
+use Rattle.lines.specs.AnswerLaws.{got-pair}
 use Rattle.lines.specs.FieldLaws.{fields-behind, field-behind, none-behind, and-then}
 
 -- no space in a text
@@ -47,10 +50,10 @@ absent-end e =
     absent-append (sign-text (ltZ e (pos 0))) _ (absent-sign (ltZ e (pos 0)))
     (absent-append (decimal _) _ (absent-digits (decimal _) (decimal-all _)) (absent-digits (digits 3 _) (digits-all 3 _)))
 
-pub pair-no-space : (t : List ℕ) (a : Interval) → read t ≡ value a → absent 32 t ≡ true
+pub pair-no-space : (t : List ℕ) (a : Interval) → built (read t) ≡ value a → absent 32 t ≡ true
 unfolding text
 pair-no-space t a e =
-    rw (text-reads-only t a e .0)
+    rw (text-reads-only t (pair-of a) (got-pair (read t) a e) .0)
     (absent-append (end-text (a .lower)) _ (absent-end (a .lower)) (absent-append (end-text (a .upper)) _ (absent-end (a .upper)) refl))
 
 -- where the byte was found, it is found at once
@@ -76,16 +79,16 @@ field-up-to s from e h k z f =
 
 -- what is seen of the pair in the field behind the one that ends at `end`: the pair, and where its field ends; of others nothing is said
 pub data Seen (s : List ℕ) (end : ℕ) : PairSeen → Type 0 where
-  found : {a : Interval} {e : ℕ} (t : List ℕ) → read t ≡ value a → fields-behind s end ≡ t ∷ fields-behind s e → e ≤ length s → Seen s end (Found a e)
+  found : {a : Interval} {e : ℕ} (t : List ℕ) → built (read t) ≡ value a → fields-behind s end ≡ t ∷ fields-behind s e → e ≤ length s → Seen s end (Found a e)
   unsure : Seen s end Unsure
 
 -- the same of a last field: none is behind it
 pub data Seen-last (s : List ℕ) (end : ℕ) : PairSeen → Type 0 where
-  last : {a : Interval} {e : ℕ} (t : List ℕ) → read t ≡ value a → fields-behind s end ≡ t ∷ [] → Seen-last s end (Found a e)
+  last : {a : Interval} {e : ℕ} (t : List ℕ) → built (read t) ≡ value a → fields-behind s end ≡ t ∷ [] → Seen-last s end (Found a e)
   none : Seen-last s end Unsure
 
 module _ (s : List ℕ) (end e : ℕ) (a : Interval) (h : end < length s) (k : end + 1 ≤ e) (w : e ≤ length s)
-    (r : read (take (e - (end + 1)) (drop (end + 1) s)) ≡ value a) where
+    (r : built (read (take (e - (end + 1)) (drop (end + 1) s))) ≡ value a) where
   seen-at : position 32 (drop e s) ≡ 0 → fields-behind s end ≡ take (e - (end + 1)) (drop (end + 1) s) ∷ fields-behind s e
   seen-at z = field-behind s end e h (field-up-to s (end + 1) e k w z (pair-no-space _ a r))
 
@@ -97,11 +100,12 @@ module _ (s : List ℕ) (end e : ℕ) (a : Interval) (h : end < length s) (k : e
       last _ r (seen-at (ap (position 32) (drop-of-length-le s {i = e} (omega arith))) ∙ and-then (none-behind s e (omega arith)))
 
 -- what the operation answers on pairs that were seen
-module _ {s : List ℕ} {end e : ℕ} {a b : Interval} {x : Outcome} where
-  pub two-seen : {e₂ : ℕ} (f : Interval → Interval → Outcome) → x ≡ f a b → Seen s end (Found a e) → Seen-last s e (Found b e₂)
-      → x ≡ two f (fields-behind s end)
-  two-seen f h (found t r is w) (last u q is₂) = h ∙ sym (ap (two f) (is ∙ and-then is₂) ∙ rw (r, q))
+module _ {s : List ℕ} {end e : ℕ} {a b : Interval} {x : Outcome Interval} where
+  pub two-seen : {e₂ : ℕ} (f : Pair → Pair → Outcome Pair) → x ≡ built (f (pair-of a) (pair-of b)) → Seen s end (Found a e) → Seen-last s e (Found b e₂)
+      → x ≡ built (two f (fields-behind s end))
+  two-seen f h (found t r is w) (last u q is₂) = h ∙ sym (ap (λ ps. built (two f ps)) (is ∙ and-then is₂) ∙ rw (got-pair (read t) a r, got-pair (read u) b q))
 
-  pub three-seen : {e₂ e₃ : ℕ} {c : Interval} (f : Interval → Interval → Interval → Outcome) → x ≡ f a c b
-      → Seen s end (Found a e) → Seen s e (Found c e₂) → Seen-last s e₂ (Found b e₃) → x ≡ three f (fields-behind s end)
-  three-seen f h (found t r is w) (found u q is₂ w₂) (last v p is₃) = h ∙ sym (ap (three f) (is ∙ and-then (is₂ ∙ and-then is₃)) ∙ rw (r, q, p))
+  pub three-seen : {e₂ e₃ : ℕ} {c : Interval} (f : Pair → Pair → Pair → Outcome Pair) → x ≡ built (f (pair-of a) (pair-of c) (pair-of b))
+      → Seen s end (Found a e) → Seen s e (Found c e₂) → Seen-last s e₂ (Found b e₃) → x ≡ built (three f (fields-behind s end))
+  three-seen {c = c} f h (found t r is w) (found u q is₂ w₂) (last v p is₃) =
+      h ∙ sym (ap (λ ps. built (three f ps)) (is ∙ and-then (is₂ ∙ and-then is₃)) ∙ rw (got-pair (read t) a r, got-pair (read u) c q, got-pair (read v) b p))

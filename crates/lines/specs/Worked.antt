@@ -1,4 +1,4 @@
--- Document 01's example of the slip program, and lines of small inputs, computed from the definitions. Assumes nothing.
+-- Document 01's example of the slip program, and lines of small inputs, computed from the definitions.
 use mathlib.Core.Path.{_≡_, refl}
 use mathlib.Core.List.{List, [], _∷_}
 use Prim.Native.Nat.{ℕ}
@@ -9,12 +9,12 @@ use Rattle.directed.specs.Operations as operations
 use Rattle.directed.specs.Thousandths as thousandths
 use Rattle.directed.specs.Answer as answers
 use Rattle.directed.specs.Equation as equations
-use Rattle.text.specs.Digits as digits
+use Rattle.decimal.specs.Digits as digits
 use Rattle.text.specs.Text as texts
 use Rattle.text.specs.Form as forms
 use Rattle.text.specs.Answer as reading
 use Rattle.lines.specs.Fields.{fields}
-use Rattle.lines.specs.Line.{one-letter, first-letter, second-letter, binary, operate, round, of-fields, answer}
+use Rattle.lines.specs.Line.{one-letter, first-letter, second-letter, operate, by-letters, of-fields, answer}
 use Rattle.lines.specs.Output.{body, with-number, output-line}
 use Rattle.lines.specs.Lines.{lines-of, output}
 
@@ -51,5 +51,5 @@ printed =
     52 ∷ 32 ∷ 82 ∷ 32 ∷ 53 ∷ 10 ∷ []
 
 pub example : output input ≡ printed
-unfolding output output-line with-number body answer of-fields round operate binary first-letter second-letter one-letter fields input printed floor.floor-nat floor.floor floor.ceiling fraction.-ᶠ_ fraction._+ᶠ_ fraction._-ᶠ_ fraction._*ᶠ_ fraction.over exactly.direction exactly.sort exactly.smaller exactly.larger operations.none-free operations.product thousandths.outside thousandths.beyond-range thousandths.smaller thousandths.larger thousandths.round-down thousandths.round-up answers.in-range answers.divided-by answers.of-one answers.of-two equations.of-three digits.is-digit digits.starts digits.front-digits digits.plain digits.number-behind digits.number digits.digits digits.width-within digits.width digits.decimal texts.size-text texts.sign-text texts.end-text texts.text forms.whole forms.behind-whole forms.thousandths forms.size-form forms.size forms.size-length forms.sign-length forms.unsigned forms.end-form forms.signed forms.end-value forms.end-length forms.from-lower forms.behind-lower forms.from-upper forms.behind-upper forms.form forms.value-of reading.read reading.over reading.write
+unfolding output output-line with-number body answer of-fields by-letters operate first-letter second-letter one-letter fields input printed floor.floor-nat floor.floor floor.ceiling fraction.-ᶠ_ fraction._+ᶠ_ fraction._-ᶠ_ fraction._*ᶠ_ fraction.over exactly.direction exactly.sort exactly.smaller exactly.larger operations.none-free operations.product operations.binary thousandths.outside thousandths.beyond-range thousandths.smaller thousandths.larger thousandths.round-down thousandths.round-up answers.in-range answers.divisor answers.stop answers.unjudged-binary equations.unjudged-equation digits.is-digit digits.starts digits.front-digits digits.plain digits.number-behind digits.number digits.digits digits.width-within digits.width digits.decimal texts.size-text texts.sign-text texts.end-text texts.text forms.whole forms.behind-whole forms.thousandths forms.size-form forms.size forms.size-length forms.sign-length forms.unsigned forms.end-form forms.signed forms.end-value forms.end-length forms.from-lower forms.behind-lower forms.from-upper forms.behind-upper forms.form forms.value-of reading.within-range reading.read
 example = refl

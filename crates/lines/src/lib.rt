@@ -2,13 +2,13 @@
 ghost use mathlib.Core.Path.{_≡_};
 ghost use Prim.Native.Nat.{_≤_};
 ghost use lib.ListN.{length, drop};
-ghost use Rattle.directed.specs.Answer.{outcome};
-ghost use Rattle.directed.specs.Equation.{equation};
+ghost use Rattle.directed.specs.Answer.{outcome, built, unjudged-binary};
+ghost use Rattle.directed.specs.Equation.{unjudged-equation};
 ghost use Rattle.text.specs.Answer.{read};
 ghost use Rattle.lines.specs.Fields.{fields};
 ghost use Rattle.lines.specs.FieldLaws.{fields-behind};
 ghost use Rattle.lines.specs.Pairs.{Seen, Seen-last};
-ghost use Rattle.lines.specs.Line.{first-field, second-field, binary, with-pair, two, three, answer as answer-of};
+ghost use Rattle.lines.specs.Line.{first-field, second-field, with-pair, two, three, answer as answer-of};
 ghost use Rattle.lines.specs.AnswerLaws.{operate-first};
 
 mod output;
@@ -16,6 +16,7 @@ mod scan;
 pub mod stream;
 
 use directed::Answer;
+use directed::Binary;
 use directed::Cause;
 use directed::Interval;
 use directed::Rounding;
@@ -31,14 +32,6 @@ enum SecondField {
     Two(Binary),
     Equation,
     NoOperation,
-}
-
-// An operation on two intervals.
-enum Binary {
-    Sum,
-    Difference,
-    Product,
-    Quotient,
 }
 
 // What a quick look sees of a field: a pair, and where the field ends. A pair's text has no space in it: where one was read up to a space
@@ -98,24 +91,13 @@ fn second_of(field: &[u8]) -> SecondField
     SecondField::NoOperation
 }
 
-fn calculate(operation: Binary, rounding: Rounding, a: Interval, b: Interval) -> Answer
-    ensures { λ r. ⌜ outcome r ≡ binary operation rounding a b ⌝ }
-{
-    match operation {
-        Binary::Sum => arithmetic::sum(a, b, rounding),
-        Binary::Difference => arithmetic::difference(a, b, rounding),
-        Binary::Product => arithmetic::product(a, b, rounding),
-        Binary::Quotient => arithmetic::quotient(a, b, rounding),
-    }
-}
-
 // Two pairs, each read from the left before the operation.
 fn of_two(operation: Binary, rounding: Rounding, first: &[u8], second: &[u8]) -> Answer
-    ensures { λ r. ⌜ outcome r ≡ with-pair (read (now (first .entry))) (λ a. with-pair (read (now (second .entry))) (λ b. binary operation rounding a b)) ⌝ }
+    ensures { λ r. ⌜ outcome r ≡ built (with-pair (read (now (first .entry))) (λ a. with-pair (read (now (second .entry))) (λ b. unjudged-binary rounding operation a b))) ⌝ }
 {
     match text::read(first) {
         Answer::Value(a) => match text::read(second) {
-            Answer::Value(b) => calculate(operation, rounding, a, b),
+            Answer::Value(b) => arithmetic::unjudged_binary(operation, a, b, rounding),
             Answer::Refused(cause) => Answer::Refused(cause),
         },
         Answer::Refused(cause) => Answer::Refused(cause),
@@ -124,12 +106,12 @@ fn of_two(operation: Binary, rounding: Rounding, first: &[u8], second: &[u8]) ->
 
 // The three pairs a, c, b of the equation a + c × x = b.
 fn of_three(rounding: Rounding, first: &[u8], second: &[u8], third: &[u8]) -> Answer
-    ensures { λ r. ⌜ outcome r ≡ with-pair (read (now (first .entry))) (λ a. with-pair (read (now (second .entry))) (λ c. with-pair (read (now (third .entry))) (λ b. equation rounding a c b))) ⌝ }
+    ensures { λ r. ⌜ outcome r ≡ built (with-pair (read (now (first .entry))) (λ a. with-pair (read (now (second .entry))) (λ c. with-pair (read (now (third .entry))) (λ b. unjudged-equation rounding a c b)))) ⌝ }
 {
     match text::read(first) {
         Answer::Value(a) => match text::read(second) {
             Answer::Value(c) => match text::read(third) {
-                Answer::Value(b) => arithmetic::equation(a, c, b, rounding),
+                Answer::Value(b) => arithmetic::unjudged_equation(a, c, b, rounding),
                 Answer::Refused(cause) => Answer::Refused(cause),
             },
             Answer::Refused(cause) => Answer::Refused(cause),
@@ -173,11 +155,11 @@ fn see_last(line: &[u8], end: usize) -> PairSeen
 // The fields behind the second, which ends at `end`, for an operation on two intervals.
 fn two_fields(operation: Binary, rounding: Rounding, line: &[u8], end: usize) -> Answer
     requires { ⌜ end ≤ length (now line) ⌝ }
-    ensures { λ r. ⌜ outcome r ≡ two (binary operation rounding) (fields-behind (now (line .entry)) end) ⌝ }
+    ensures { λ r. ⌜ outcome r ≡ built (two (unjudged-binary rounding operation) (fields-behind (now (line .entry)) end)) ⌝ }
 {
     match see_next(line, end) {
         PairSeen::Found(a, next) => match see_last(line, next) {
-            PairSeen::Found(b, _) => calculate(operation, rounding, a, b),
+            PairSeen::Found(b, _) => arithmetic::unjudged_binary(operation, a, b, rounding),
             PairSeen::Unsure => two_by_scan(operation, rounding, line, end),
         },
         PairSeen::Unsure => two_by_scan(operation, rounding, line, end),
@@ -187,12 +169,12 @@ fn two_fields(operation: Binary, rounding: Rounding, line: &[u8], end: usize) ->
 // The same for the equation.
 fn three_fields(rounding: Rounding, line: &[u8], end: usize) -> Answer
     requires { ⌜ end ≤ length (now line) ⌝ }
-    ensures { λ r. ⌜ outcome r ≡ three (equation rounding) (fields-behind (now (line .entry)) end) ⌝ }
+    ensures { λ r. ⌜ outcome r ≡ built (three (unjudged-equation rounding) (fields-behind (now (line .entry)) end)) ⌝ }
 {
     match see_next(line, end) {
         PairSeen::Found(a, next) => match see_next(line, next) {
             PairSeen::Found(c, later) => match see_last(line, later) {
-                PairSeen::Found(b, _) => arithmetic::equation(a, c, b, rounding),
+                PairSeen::Found(b, _) => arithmetic::unjudged_equation(a, c, b, rounding),
                 PairSeen::Unsure => three_by_scan(rounding, line, end),
             },
             PairSeen::Unsure => three_by_scan(rounding, line, end),
@@ -204,7 +186,7 @@ fn three_fields(rounding: Rounding, line: &[u8], end: usize) -> Answer
 // The fields are cut, whatever they hold: there must be two.
 fn two_by_scan(operation: Binary, rounding: Rounding, line: &[u8], end: usize) -> Answer
     requires { ⌜ end ≤ length (now line) ⌝ }
-    ensures { λ r. ⌜ outcome r ≡ two (binary operation rounding) (fields-behind (now (line .entry)) end) ⌝ }
+    ensures { λ r. ⌜ outcome r ≡ built (two (unjudged-binary rounding operation) (fields-behind (now (line .entry)) end)) ⌝ }
 {
     if end == line.len() {
         return Answer::Refused(Cause::MalformedLine);
@@ -230,7 +212,7 @@ fn two_by_scan(operation: Binary, rounding: Rounding, line: &[u8], end: usize) -
 // There must be three.
 fn three_by_scan(rounding: Rounding, line: &[u8], end: usize) -> Answer
     requires { ⌜ end ≤ length (now line) ⌝ }
-    ensures { λ r. ⌜ outcome r ≡ three (equation rounding) (fields-behind (now (line .entry)) end) ⌝ }
+    ensures { λ r. ⌜ outcome r ≡ built (three (unjudged-equation rounding) (fields-behind (now (line .entry)) end)) ⌝ }
 {
     if end == line.len() {
         return Answer::Refused(Cause::MalformedLine);
@@ -261,7 +243,7 @@ fn three_by_scan(rounding: Rounding, line: &[u8], end: usize) -> Answer
 // The fields from the second on, which begins at `from`.
 fn from_second(rounding: Rounding, line: &[u8], from: usize) -> Answer
     requires { ⌜ from ≤ length (now line) ⌝ }
-    ensures { λ r. ⌜ outcome r ≡ operate-first rounding (fields (drop from (now (line .entry)))) ⌝ }
+    ensures { λ r. ⌜ outcome r ≡ built (operate-first rounding (fields (drop from (now (line .entry))))) ⌝ }
 {
     let end = scan::find_near(b' ', line, from);
     match second_of(&line[from..end]) {
@@ -273,7 +255,7 @@ fn from_second(rounding: Rounding, line: &[u8], from: usize) -> Answer
 
 // The answer to a line, its byte 10 not counted.
 pub fn answer(line: &[u8]) -> Answer
-    ensures { λ r. ⌜ outcome r ≡ answer-of (now (line .entry)) ⌝ }
+    ensures { λ r. ⌜ outcome r ≡ built (answer-of (now (line .entry))) ⌝ }
 {
     if 96 < line.len() {
         return Answer::Refused(Cause::MalformedLine);

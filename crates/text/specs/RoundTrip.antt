@@ -3,13 +3,13 @@ use mathlib.Core.Path.{_≡_, refl, sym, ap, _∙_}
 use mathlib.Core.Bool.{Bool, true, false, cond}
 use mathlib.Core.List.{List, [], _∷_}
 use mathlib.Core.Logic.{_↔_}
-use Prim.Native.Nat.{ℕ, _<_}
+use Prim.Native.Nat.{ℕ, _≤_, _<_}
 use native.Mathlib.Omega.{arith}
 use lib.Dec.{leb}
 use lib.IntN.{negsuc}
 use lib.ListN.{length, take, drop}
 use lib.Seq.{take-append-seam}
-use borrow.Author.Tests.{leb-false, lt-leb}
+use borrow.Author.Tests.{leb-true, leb-false, le-leb, lt-leb}
 use Rattle.directed.specs.declared.Interval.{Interval}
 use Rattle.directed.specs.Thousandths.{Pair, pair, outside, beyond-range}
 use Rattle.directed.specs.Choice.{if_then_else_}
@@ -141,6 +141,22 @@ module _ (a : Interval) (d : List ℕ) where
       go true f c = let z : _≡_ {A = ℕ} 2 3 = cc in absurd (omega arith)
       go false true c = let z : _≡_ {A = ℕ} 0 1 = cc in absurd (omega arith)
       go false false c = (refl, refl)
+
+  pub write-value-iff : (n : ℕ) → (write a d .answer ≡ value n) ↔ ((faulty a ≡ false) × (length (text (pair-of a)) ≤ length d) × (n ≡ length (text (pair-of a))))
+  unfolding t choice leaving
+  write-value-iff n = (
+    λ e. let p = go (faulty a) (leb (length t) (length d)) (ap (λ w. w .answer) (sym (told-is a d)) ∙ e) in (p .0, leb-true _ _ (p .1), p .2),
+    λ w. rw (told-is a d, w .0, le-leb (length t) (length d) (w .1)) (ap value (sym (w .2))),
+  )
+    where
+      go : (r f : Bool) → leaving t d (choice r f (length t)) .answer ≡ value n → (r ≡ false) × (f ≡ true) × (n ≡ length t)
+      go true f c = let z : _≡_ {A = ℕ} 0 1 = cc in absurd (omega arith)
+      go false true c = (refl, refl, cc)
+      go false false c = let z : _≡_ {A = ℕ} 0 1 = cc in absurd (omega arith)
+
+  pub write-buffer : faulty a ≡ false → length (text (pair-of a)) ≤ length d → write a d .buffer ≡ over (text (pair-of a)) d
+  unfolding t choice leaving
+  write-buffer e h = rw (told-is a d, e, le-leb (length t) (length d) h)
 
   pub write-refused : (k : ℕ) → write a d .answer ≡ refusal k → write a d .buffer ≡ d
   unfolding write leaving

@@ -1,4 +1,4 @@
--- `read` meets its contract. The invariant: what is left, from the first or the second end on, gives the answer of the whole.
+-- The invariant: what is left, from the first or the second end on, gives the answer of the whole.
 use Prim.Native.Nat.{ℕ, _≤_, _<_}
 use Rattle.directed.specs.Answer.{built}
 use Rattle.text.proofs.Intervals.{Is, end-is, no-opening, from-opening, no-end, more-behind, upper-read, lower-inside, lower-read}
