@@ -13,7 +13,8 @@ use Rattle.directed.specs.Answer as answers
 use Rattle.directed.specs.Answer.{Outcome, built}
 use Rattle.lists.specs.Lists as results
 use Rattle.lists.specs.Lists.{Result, value, refusal}
-use Rattle.text.specs.Answer.{Told, length-told, refusal-told, Writing}
+use Rattle.lists.specs.Results.{value-refusal}
+use Rattle.text.specs.Answer.{Writing}
 use Rattle.capi.specs.Effect.{Effect, effect, done, paired, paired-result, effect-of, stepless, with-step, length-effect, length-effect-of, writing-effect, writing-effect-of}
 
 -- an interval made of two numbers that are given
@@ -34,16 +35,20 @@ pub effect-same : (before : List ℤ) (o : Result Pair) {r : Result Interval} {e
 effect-same before (value p) given same = rw same at given
 effect-same before (refusal n k) given same = rw same at given
 
+pub built-refusal : (o : Result Pair) {n k : ℕ} → results.built o ≡ refusal n k → o ≡ refusal n k
+built-refusal (value p) e = absurd (value-refusal e)
+built-refusal (refusal m j) e = cc
+
 pub stepless-same : (before : List ℤ) (o : Outcome Pair) {r : Outcome Interval} {e : Effect} → e ≡ effect-of (stepless (paired r)) before → r ≡ built o → e ≡ effect-of (stepless o) before
 stepless-same before (answers.value p) given same = rw same at given
 stepless-same before (answers.refusal n) given same = rw same at given
 
-module _ (before : ℕ) {t : Told} where
-  pub length-effect-told : {n : ℕ} → t ≡ length-told n → length-effect 0 n ≡ length-effect-of t before
+module _ (before : ℕ) {t : Outcome ℕ} where
+  pub length-effect-told : {n : ℕ} → t ≡ answers.value n → length-effect 0 n ≡ length-effect-of t before
   unfolding length-effect-of
   length-effect-told p = rw p
 
-  pub length-effect-refusal : {k n : ℕ} → t ≡ refusal-told k → n ≡ k → length-effect n before ≡ length-effect-of t before
+  pub length-effect-refusal : {k n : ℕ} → t ≡ answers.refusal k → n ≡ k → length-effect n before ≡ length-effect-of t before
   unfolding length-effect-of
   length-effect-refusal p q = rw (p, q)
 

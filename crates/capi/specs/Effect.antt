@@ -11,7 +11,7 @@ use Rattle.directed.specs.Answer.{Outcome}
 use Rattle.directed.specs.Lift.{pair-of}
 use Rattle.directed.specs.Thousandths.{Pair}
 use Rattle.lists.specs.Lists.{Result, value, refusal, at}
-use Rattle.text.specs.Answer.{Told, length-told, refusal-told, Writing}
+use Rattle.text.specs.Answer.{Writing}
 
 -- 01's way, as C says it: `inward`
 abbrev pub way : Bool → Rounding
@@ -60,9 +60,9 @@ pub record LengthEffect : Type 0 where
 abbrev pub length-effect : ℕ → ℕ → LengthEffect
 length-effect n l = record { returned = n; written = l }
 
-unfoldable pub length-effect-of : Told → ℕ → LengthEffect
-length-effect-of (length-told n) before = length-effect 0 n
-length-effect-of (refusal-told k) before = length-effect k before
+unfoldable pub length-effect-of : Outcome ℕ → ℕ → LengthEffect
+length-effect-of (answers.value n) before = length-effect 0 n
+length-effect-of (answers.refusal k) before = length-effect k before
 
 pub record WritingEffect : Type 0 where
   pub told : LengthEffect
