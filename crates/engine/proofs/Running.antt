@@ -41,14 +41,14 @@ pub record Going (k d : ℕ) (w : Rounding) (is : List Instruction) (ms : List B
   pub rest : ran k w is ms xs ≡ all
 
 -- the step that is next: what it may take, and where its answer leads
-pub record Turn (k d : ℕ) (w : Rounding) (i : Instruction) (is : List Instruction) (ms : List Bool) (xs : List Interval) (all : Result Interval) : Type 0 where
+pub record Next (k d : ℕ) (w : Rounding) (i : Instruction) (is : List Instruction) (ms : List Bool) (xs : List Interval) (all : Result Interval) : Type 0 where
   pub enough : takes (i .step) ≤ d
   pub room : d - takes (i .step) + 1 ≤ 16
   pub refused : (c : ℕ) → answers.refusal c ≡ step-outcome w (i .step) (i .constant) xs → refusal c k ≡ all
   pub goes-on : (x : Interval) → answers.value x ≡ step-outcome w (i .step) (i .constant) xs → Going (k + 1) (d - takes (i .step) + 1) w is ms (x ∷ drop (takes (i .step)) xs) all
 
 head : {k d : ℕ} (w : Rounding) {i : Instruction} (m : Bool) {is : List Instruction} {ms : List Bool} {xs : List Interval} {all : Result Interval}
-    → Fits 16 d (i ∷ is) 1 → ran k w (i ∷ is) (m ∷ ms) xs ≡ all → Turn k d (way-after m w) i is ms xs all
+    → Fits 16 d (i ∷ is) 1 → ran k w (i ∷ is) (m ∷ ms) xs ≡ all → Next k d (way-after m w) i is ms xs all
 unfolding ran
 head {k} w m (step a b f) e = record {
   enough = a;
@@ -66,8 +66,8 @@ item-at n k xs d l h = rw (add-one, ← getD-take n xs k d h) (drop-cons (take n
 
 module _ (n k : ℕ) (is : List Instruction) (ms : List Bool) (hi : n ≤ length is) (hm : n ≤ length ms) (d : ℕ) (w : Rounding) (xs : List Interval) (all : Result Interval)
     (g : Going k d w (drop k (take n is)) (drop k (take n ms)) xs all) where
-  pub turn : (i₀ : Instruction) → k < n → Turn k d (way-after (getD ms k false) w) (getD is k i₀) (drop (k + 1) (take n is)) (drop (k + 1) (take n ms)) xs all
-  turn i₀ h = head w (getD ms k false) (rw (item-at n k is i₀ hi h) at (g .fits)) (rw (item-at n k is i₀ hi h, item-at n k ms false hm h) at (g .rest))
+  pub next : (i₀ : Instruction) → k < n → Next k d (way-after (getD ms k false) w) (getD is k i₀) (drop (k + 1) (take n is)) (drop (k + 1) (take n ms)) xs all
+  next i₀ h = head w (getD ms k false) (rw (item-at n k is i₀ hi h) at (g .fits)) (rw (item-at n k is i₀ hi h, item-at n k ms false hm h) at (g .rest))
 
   pub going-end : n ≤ k → (d ≡ 1) × (value (getD xs 0 no-constant) ≡ all)
   unfolding ran
@@ -77,7 +77,7 @@ module _ (n k : ℕ) (is : List Instruction) (ms : List Bool) (hi : n ≤ length
 
 -- the value goes to the place of the first that is taken
 pub going-put : {k d : ℕ} {w : Rounding} {i : Instruction} {is : List Instruction} {ms : List Bool} (items : List Interval) {all : Result Interval}
-    → Turn k d w i is ms (tops no-constant d items) all → (x : Interval) (m d′ : ℕ) (items′ : List Interval) → m ≡ takes (i .step)
+    → Next k d w i is ms (tops no-constant d items) all → (x : Interval) (m d′ : ℕ) (items′ : List Interval) → m ≡ takes (i .step)
     → answers.value x ≡ step-outcome w (i .step) (i .constant) (tops no-constant d items)
     → tops no-constant d′ items′ ≡ x ∷ tops no-constant (d - m) items
     → (d′ ≤ 16) × Going (k + 1) d′ w is ms (tops no-constant d′ items′) all

@@ -3,13 +3,13 @@ use borrow.Author.Needs.{needs}
 use mathlib.Core.Path.{_≡_, refl, sym, _∙_}
 use mathlib.Core.Bool.{false}
 use mathlib.Core.List.{[]}
-use Prim.Native.Nat.{_+_, _-_, _≤_}
+use Prim.Native.Nat.{ℕ, _+_, _-_, _≤_, _<_}
 use native.Mathlib.Omega.{arith}
 use lib.ListN.{length, drop, getD, length-map}
-use Rattle.lists.specs.declared.Step.the-variants.{Constant}
-use Rattle.engine.specs.Program.{instruction, no-constant, instructions-of, turns-of}
+use Rattle.engine.specs.declared.program.Instruction.{Instruction}
+use Rattle.engine.specs.Program.{instructions-of, turns-of}
 use Rattle.engine.specs.Machine.{values-of, way-after, ran}
-use Rattle.engine.proofs.Running.{Going, Turn, turn, going-put, going-end}
+use Rattle.engine.proofs.Running.{Going, Next, next, going-put, going-end}
 use Rattle.engine.proofs.machine.run.Statement.{statement}
 use Rattle.engine.proofs.machine.run.Tie as tie
 
@@ -25,35 +25,37 @@ sizes c =
     let f : length (c .args .t1 .turns) ≡ 64 = search needs in
     (omega (arith, c .pre .steps), omega (arith, c .pre .steps))
 
-abbrev Next : tie.In-loop Inv-loop μ-loop → Type 0
-Next c =
-    let p = c .before .before .before .args .t1 in
+-- whatever an array is read as where it has no entry
+abbrev NextAt : tie.In-loop Inv-loop μ-loop → Instruction → Type 0
+NextAt c none =
+    let s = c .before .before .before .args in
+    let p = s .t1 in
     let l = c .before .loop in
-    Turn (l .k) (l .stack .depth) (way-after (getD (p .turns) (l .k) false) (l .way)) (getD (p .instructions) (l .k) (instruction Constant no-constant))
-    (drop (l .k + 1) (instructions-of p)) (drop (l .k + 1) (turns-of p)) (values-of (l .stack)) (ran 0 (c .before .before .before .args .rounding) (instructions-of p) (turns-of p) [])
+    Next (l .k) (l .stack .depth) (way-after (getD (p .turns) (l .k) false) (l .way)) (getD (p .instructions) (l .k) none) (drop (l .k + 1) (instructions-of p))
+    (drop (l .k + 1) (turns-of p)) (values-of (l .stack)) (ran 0 (s .rounding) (instructions-of p) (turns-of p) [])
 
-next : (c : tie.In-loop Inv-loop μ-loop) → Next c
-next c =
+next-at : (c : tie.In-loop Inv-loop μ-loop) (none : Instruction) → NextAt c none
+next-at c none =
     let p = c .before .before .before .args .t1 in
     let l = c .before .loop in
     let z = sizes (c .before .before .before) in
-    turn (p .count) (l .k) (p .instructions) (p .turns) (z .0) (z .1) _ _ _ _ (l .inv .2) _ (omega arith)
+    next (p .count) (l .k) (p .instructions) (p .turns) (z .0) (z .1) _ _ _ _ (l .inv .2) none (omega arith)
+
+below : (d t : ℕ) → d - t + 1 ≤ 16 → d - t < 16
+below d t h = omega arith
 
 -- ---- the needs
 loop-holds : tie.Need-loop-holds Inv-loop μ-loop
 loop-holds c = rw (c .new .ensures) (omega arith, omega arith, record { fits = c .before .pre .values; rest = refl })
 
-put-requires : tie.Need-put-requires Inv-loop μ-loop
-put-requires c κs = omega (arith, c .before .taken .ensures, next (c .before .before .before .before .before .before .before .before .before) .room)
-
 returns : tie.Need-returns Inv-loop μ-loop
 returns c =
-    next (c .before .before .before .before .before .before .before) .refused _
+    next-at (c .before .before .before .before .before .before .before) _ .refused _
     (rw (c .before .answer2 .given .1, c .before .before .before .before .turned .ensures) at (c .before .before .before .step-answer .ensures))
 
 loop-again : tie.Need-loop-again Inv-loop μ-loop
 loop-again c =
-    let q = going-put (c .before .before .before .before .before .before .before .before .before .before .before .loop .stack .items) (next (c .before .before .before .before .before .before .before .before .before .before)) _ _ (c .put .result .depth) (c .put .result .items) (c .before .before .taken .ensures)
+    let q = going-put (c .before .before .before .before .before .before .before .before .before .before .before .loop .stack .items) (next-at (c .before .before .before .before .before .before .before .before .before .before) _) _ _ (c .put .result .depth) (c .put .result .items) (c .before .before .taken .ensures)
     (rw (c .before .before .before .before .answer .given .1, c .before .before .before .before .before .before .before .turned .ensures) at (c .before .before .before .before .before .before .step-answer .ensures)) (c .put .ensures) in
     (omega arith, q .0, rw (c .before .before .before .before .before .before .before .turned .ensures) (q .1))
 
@@ -70,6 +72,7 @@ pub run-spec : {M : Type 1} → statement M
 run-spec =
     tie.close
     (tie.spec Inv-loop μ-loop (λ c κs. search needs) loop-holds (λ c. search needs) (λ c. search needs) (λ c. search needs) (λ c κs. search needs)
-    (λ c κs. (next (c .before .before .before) .enough, omega arith)) (λ c. search needs) (λ c κs. search needs)
-    (λ c. rw (c .before .taken .ensures) (next (c .before .before .before .before .before .before .before .before .before) .enough)) put-requires (λ c. search needs) returns (λ c. search needs) (λ c. search needs) loop-again
+    (λ c κs. (next-at (c .before .before .before) _ .enough, omega arith)) (λ c. search needs) (λ c κs. search needs)
+    (λ c. rw (c .before .taken .ensures) (next-at (c .before .before .before .before .before .before .before .before .before) _ .enough))
+    (λ c κs. rw (c .before .taken .ensures) (below _ _ (next-at (c .before .before .before .before .before .before .before .before .before) _ .room))) (λ c. search needs) returns (λ c. search needs) (λ c. search needs) loop-again
     (λ c κs. search needs) returns-2)
