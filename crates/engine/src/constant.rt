@@ -1,7 +1,7 @@
 // A constant's 8 bytes: two 32-bit ends in two's complement, low byte first.
 ghost use mathlib.Core.Path.{_≡_};
-ghost use Prim.Native.Nat.{_+_, _≤_};
-ghost use lib.ListN.{length};
+ghost use Prim.Native.Nat.{_≤_};
+ghost use lib.ListN.{getD};
 ghost use mir.Syntax.{w32};
 ghost use mir.Val.{toZ};
 ghost use Rattle.directed.specs.Lift.{interval};
@@ -24,15 +24,26 @@ fn signed_of(x: u32) -> i32
     }
 }
 
+// The byte at a place, 0 where there is none.
+fn byte_at(s: &[u8], at: usize) -> u8
+    ensures { λ r. ⌜ r ≡ getD (now (s .entry)) at 0 ⌝ }
+{
+    if at < s.len() { s[at] } else { 0 }
+}
+
 fn end_at(s: &[u8], at: usize) -> i32
-    requires { ⌜ at + 4 ≤ length (now s) ⌝ }
+    requires { ⌜ at ≤ 4 ⌝ }
     ensures { λ r. ⌜ r ≡ toZ w32 (word-at (now (s .entry)) at) ⌝ }
 {
-    signed_of(word_of(s[at], s[at + 1], s[at + 2], s[at + 3]))
+    signed_of(word_of(
+        byte_at(s, at),
+        byte_at(s, at + 1),
+        byte_at(s, at + 2),
+        byte_at(s, at + 3),
+    ))
 }
 
 pub fn constant_in(s: &[u8]) -> Interval
-    requires { ⌜ 8 ≤ length (now s) ⌝ }
     ensures { λ r. ⌜ r ≡ interval (constant-in (now (s .entry))) ⌝ }
 {
     Interval::new(end_at(s, 0), end_at(s, 4))

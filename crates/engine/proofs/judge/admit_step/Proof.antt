@@ -24,4 +24,4 @@ returns-5 c = admitted-is _ _ _ (no-cause (omega arith) (sym (c .before .before 
 pub admit-step-spec : {M : Type 1} → statement M
 admit-step-spec =
     tie.close
-    (tie.spec (λ c κs. search needs) returns (λ c κs. search needs) returns-2 (λ c κs. search needs) returns-3 (λ c. search needs) returns-4 returns-5)
+    (tie.spec (λ c κs. search needs) returns (λ c κs. search needs) returns-2 (λ c κs. search needs) returns-3 returns-4 returns-5)

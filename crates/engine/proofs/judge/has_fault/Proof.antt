@@ -5,9 +5,6 @@ use Rattle.directed.specs.Lift.{faulty}
 use Rattle.engine.proofs.judge.has_fault.Statement.{statement}
 use Rattle.engine.proofs.judge.has_fault.Tie as tie
 
-constant-in-requires : tie.Need-constant-in-requires
-constant-in-requires c κs = rw (c .enum-told .given .1) at (c .before .before .before .pre)
-
 returns : tie.Need-returns
 unfolding faulty
 returns c = rw (c .before .before .enum-told .given .1) (c .is-faulty .ensures ∙ ap faulty (c .before .constant-in .ensures))
@@ -15,4 +12,4 @@ returns c = rw (c .before .before .enum-told .given .1) (c .is-faulty .ensures �
 pub has-fault-spec : {M : Type 1} → statement M
 has-fault-spec =
     tie.close
-    (tie.spec (λ c. search needs) constant-in-requires (λ c κs. search needs) (λ c. search needs) (λ c. search needs) returns (λ c. search needs) (λ c. search needs))
+    (tie.spec (λ c. search needs) (λ c κs. search needs) (λ c κs. search needs) (λ c. search needs) (λ c. search needs) returns (λ c. search needs) (λ c. search needs))
