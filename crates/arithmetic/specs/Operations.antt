@@ -3,11 +3,10 @@ use mathlib.Core.Bool.{Bool, true, false, not}
 use mathlib.Core.Path.{_≡_, _∙_, sym, refl, ap, ap₂}
 use lib.IntN.{_+ℤ_, _-ℤ_}
 use Rattle.directed.specs.Answer.{in-range, unjudged-binary, stop}
-use Rattle.directed.specs.Kind.{kind-of, sort-of}
+use Rattle.directed.specs.Kind.{kind-of}
 use Rattle.directed.specs.KindLaws.{sort-kind}
 use Rattle.directed.specs.Operations as operations
-use Rattle.directed.specs.Thousandths.{Pair, pair, exact, join, meet, rounded}
-use Rattle.directed.specs.declared.Binary.{Binary}
+use Rattle.directed.specs.Thousandths.{Pair, pair}
 use Rattle.directed.specs.declared.Binary.the-variants.{Sum, Difference, Product, Join, Meet}
 use Rattle.directed.specs.declared.Rounding.{Rounding}
 use Rattle.arithmetic.specs.Ends.{extreme, extreme-smaller, extreme-larger}

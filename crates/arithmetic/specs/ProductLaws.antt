@@ -1,6 +1,6 @@
 -- The exact product in millionths is 01's product, and rounded it is the product of demand 2.
 use mathlib.Core.Bool.{Bool, true, false, cond, not}
-use mathlib.Core.Path.{_≡_, _∙_, sym, refl, ap, ap₂}
+use mathlib.Core.Path.{_≡_, _∙_, sym, refl, ap₂}
 use Prim.Native.Nat.{_*_}
 use native.Mathlib.Omega.{arith}
 use lib.IntN.{ℤ, pos, _*ℤ_}

@@ -1,6 +1,6 @@
 -- The quotients of ends that the kinds pick are 01's quotient and 01's equation, rounded once.
 use mathlib.Core.Bool.{Bool, true, false, not}
-use mathlib.Core.Path.{_≡_, _∙_, sym, refl, ap}
+use mathlib.Core.Path.{_≡_, sym, refl, ap}
 use Prim.Native.Nat.{zero, suc, _*_}
 use native.Mathlib.Omega.{arith}
 use lib.IntN.{ℤ, pos, negsuc, _-ℤ_, negℤ, _*ℤ_, *ℤ-zero}
@@ -9,9 +9,9 @@ use Rattle.integers.specs.Laws.{negℤ-*ℤ}
 use Rattle.integers.specs.Parts.{is-diff, diffs}
 use Rattle.directed.specs.Answer.{unless, divisor, stop, in-range, refusal, unjudged-binary}
 use Rattle.directed.specs.Equation.{unjudged-equation}
-use Rattle.directed.specs.Exact.{Exact, Sort, sort, _≋_, ⁺, ⁻, zero-free, holds-zero}
+use Rattle.directed.specs.Exact.{Sort, sort, _≋_, ⁺, ⁻, zero-free, holds-zero}
 use Rattle.directed.specs.Exact as exactly
-use Rattle.directed.specs.Fraction.{Fraction, _≈_, _/1000, _*ᶠ_, over, 1/_}
+use Rattle.directed.specs.Fraction.{_≈_, _/1000, _*ᶠ_, over, 1/_}
 use Rattle.directed.specs.Kind.{kind-of, sort-of}
 use Rattle.directed.specs.KindLaws.{sort-kind}
 use Rattle.directed.specs.Operations.{_⊟_, _⊘_, product, reciprocal}

@@ -1,6 +1,5 @@
 // The operations one by one, and the equation; what is given is not judged.
 ghost use mathlib.Core.Path.{_≡_};
-ghost use mathlib.Core.Bool.{not};
 ghost use lib.IntN.{negℤ, _+ℤ_, _-ℤ_};
 ghost use Rattle.directed.specs.Thousandths.{pair, dual};
 ghost use Rattle.directed.specs.declared.Binary.the-variants as op;

@@ -2,8 +2,8 @@
 use mathlib.Core.List.{[], _∷_}
 use mathlib.Core.Logic.{_↔_}
 use mathlib.Core.Bool.{true, false}
-use mathlib.Core.Path.{_≡_, _∙_, refl, ap}
-use Rattle.directed.specs.Answer.{Outcome, outcome, built, unless, given, sound, divisor, in-range, value, refusal}
+use mathlib.Core.Path.{_≡_, refl, ap}
+use Rattle.directed.specs.Answer.{outcome, built, unless, given, sound, divisor, in-range, value, refusal}
 use Rattle.directed.specs.Equation.{Solves, solution, unjudged-equation, equation}
 use Rattle.directed.specs.Exact.{Exact, Sign, Sort, sort, _≋_, zero-free, holds-zero}
 use Rattle.directed.specs.Lift.{interval, pair-of}

@@ -18,7 +18,7 @@ use Rattle.directed.specs.declared.Rounding.the-variants.{Outward, Inward}
 use Rattle.directed_laws.specs.Fraction.{≈-refl}
 use Rattle.directed_laws.specs.Product.{product-dual, quotient-dual}
 use Rattle.directed_laws.specs.Rounding.{rounded-cong}
-use Rattle.directed_laws.specs.Thousandths.{dual-range, unary-range}
+use Rattle.directed_laws.specs.Thousandths.{dual-range}
 use Rattle.directed.specs.Exact as exactly
 use Rattle.directed.specs.Operations as operations
 use Rattle.directed.specs.Thousandths as thousandths

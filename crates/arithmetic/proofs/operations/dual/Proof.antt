@@ -1,6 +1,6 @@
 -- The ends, exchanged.
 use borrow.Author.Needs.{needs}
-use mathlib.Core.Path.{_≡_, _∙_}
+use mathlib.Core.Path.{_∙_}
 use mir.Syntax.{w64}
 use Rattle.integers.specs.Locals.{got}
 use Rattle.arithmetic.proofs.Shared.{Same, landed}

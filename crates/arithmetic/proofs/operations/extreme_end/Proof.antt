@@ -1,6 +1,6 @@
 -- The extreme of two ends, in 64 bits.
 use borrow.Author.Needs.{needs}
-use mathlib.Core.Path.{_≡_, ap₂, _∙_}
+use mathlib.Core.Path.{ap₂, _∙_}
 use mir.Syntax.{w64}
 use Rattle.integers.specs.Locals.{plain, got}
 use Rattle.arithmetic.specs.Ends.{extreme}

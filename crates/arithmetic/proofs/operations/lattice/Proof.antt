@@ -1,6 +1,6 @@
 -- The smaller or the larger of the lower ends, and the other of the upper ones.
 use borrow.Author.Needs.{needs}
-use mathlib.Core.Path.{_≡_, ap, ap₂, _∙_}
+use mathlib.Core.Path.{ap₂, _∙_}
 use mir.Syntax.{w64}
 use Rattle.integers.specs.Locals.{got}
 use mathlib.Core.Bool.{not}

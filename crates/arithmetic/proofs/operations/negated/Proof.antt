@@ -1,6 +1,6 @@
 -- Both ends, negated.
 use borrow.Author.Needs.{needs}
-use mathlib.Core.Path.{_≡_, ap, _∙_}
+use mathlib.Core.Path.{ap, _∙_}
 use lib.IntN.{negℤ}
 use mir.Syntax.{w64}
 use Rattle.integers.specs.Locals.{plain, got}

@@ -1,6 +1,6 @@
 -- The exact product in millionths, rounded once.
 use borrow.Author.Needs.{needs}
-use mathlib.Core.Path.{_≡_, ap, _∙_}
+use mathlib.Core.Path.{ap, _∙_}
 use Rattle.directed.specs.Answer.{built}
 use Rattle.arithmetic.specs.Operations.{product-is}
 use Rattle.arithmetic.proofs.Shared.{Same64}

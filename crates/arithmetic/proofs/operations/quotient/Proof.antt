@@ -1,6 +1,6 @@
 -- The ends and the kinds of both.
 use borrow.Author.Needs.{needs}
-use mathlib.Core.Path.{_≡_, _∙_, ap}
+use mathlib.Core.Path.{_∙_, ap}
 use mir.Syntax.{w64}
 use Rattle.integers.specs.Locals.{got}
 use Rattle.directed.specs.Answer.{built}

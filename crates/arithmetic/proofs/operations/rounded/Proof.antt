@@ -1,14 +1,12 @@
 -- Both ends over 1000, the upper one rounded in the other direction.
 use borrow.Author.Needs.{needs}
-use mathlib.Core.Path.{_≡_, _∙_}
-use mathlib.Core.Bool.{not}
 use Prim.Native.Nat.{_≤_}
 use native.Mathlib.Omega.{arith}
 use lib.IntN.{ℤ, pos, natAbs}
 use mir.Syntax.{w64}
 use Rattle.integers.specs.Locals.{plain, got}
 use Rattle.integers.specs.Parts.{lin}
-use Rattle.arithmetic.specs.Division.{Divides, nearest}
+use Rattle.arithmetic.specs.Division.{Divides}
 use Rattle.arithmetic.specs.Ends.{lower-up, product-bound}
 use Rattle.arithmetic.specs.ProductLaws.{thousandths}
 use Rattle.arithmetic.proofs.Shared.{landed}

@@ -1,6 +1,6 @@
 -- The sums of the ends, which are exact.
 use borrow.Author.Needs.{needs}
-use mathlib.Core.Path.{_≡_, ap, ap₂, _∙_}
+use mathlib.Core.Path.{ap₂, _∙_}
 use mir.Syntax.{w64}
 use Rattle.integers.specs.Locals.{got}
 use lib.IntN.{_+ℤ_}

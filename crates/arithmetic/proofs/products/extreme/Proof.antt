@@ -1,9 +1,9 @@
 -- The extreme of two products; it is one of them, so it is bounded as they are.
 use borrow.Author.Needs.{needs}
-use mathlib.Core.Path.{_≡_, ap₂, _∙_}
+use mathlib.Core.Path.{ap₂, _∙_}
 use mathlib.Core.Bool.{Bool, true, false, cond}
 use Prim.Native.Nat.{_≤_}
-use lib.IntN.{ℤ, natAbs, _*ℤ_}
+use lib.IntN.{ℤ, natAbs}
 use lib.Signed.{leZ}
 use mir.Syntax.{w64}
 use Rattle.integers.specs.Locals.{plain, got}

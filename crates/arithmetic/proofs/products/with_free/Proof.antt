@@ -1,6 +1,6 @@
 -- The ends that the kind picks, times those of the other factor.
 use borrow.Author.Needs.{needs}
-use mathlib.Core.Path.{_≡_, ap, ap₂, _∙_}
+use mathlib.Core.Path.{ap, ap₂, _∙_}
 use lib.IntN.{ℤ, _*ℤ_}
 use mir.Syntax.{w64}
 use Rattle.integers.specs.Locals.{plain, got}

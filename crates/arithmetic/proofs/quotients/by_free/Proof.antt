@@ -1,6 +1,6 @@
 -- Over the ends that the kind picks.
 use borrow.Author.Needs.{needs}
-use mathlib.Core.Path.{_≡_, ap, ap₂, _∙_}
+use mathlib.Core.Path.{ap, ap₂, _∙_}
 use lib.IntN.{ℤ}
 use Rattle.integers.specs.Locals.{plain}
 use Rattle.directed.specs.Answer.{built, in-range}

@@ -1,7 +1,7 @@
 -- 0 where the divisor is 0; else the quotient of the thousandfold.
 use borrow.Author.Needs.{needs}
 use mathlib.Core.Path.{_≡_, refl, sym, ap, _∙_}
-use Prim.Native.Nat.{_≤_, _<_, _^_}
+use Prim.Native.Nat.{_≤_}
 use native.Mathlib.Omega.{arith}
 use lib.IntN.{ℤ, pos, natAbs, _*ℤ_}
 use lib.Signed.{natAbs-le}
@@ -9,8 +9,7 @@ use mir.Syntax.{w32, w64}
 use mir.Val.{SFits, toZ, ofZ}
 use Rattle.integers.specs.Locals.{plain, got}
 use Rattle.integers.specs.Sizes.{abs-times-le}
-use Rattle.arithmetic.specs.Division.{Divides, nearest}
-use Rattle.arithmetic.specs.Quotient.{nearest-ratio}
+use Rattle.arithmetic.specs.Division.{Divides}
 use Rattle.arithmetic.specs.QuotientLaws.{nearest-ratio-is, ratio-zero}
 use Rattle.arithmetic.proofs.quotients.ratio.Statement.{statement}
 use Rattle.arithmetic.proofs.quotients.ratio.Tie as tie

@@ -1,5 +1,5 @@
 -- Each kind picks its ends.
-use mathlib.Core.Path.{_≡_, ap₂, _∙_}
+use mathlib.Core.Path.{ap₂}
 use borrow.Author.Needs.{needs}
 use Rattle.integers.specs.Locals.{plain}
 use Rattle.directed.specs.Thousandths.{pair}

@@ -1,7 +1,6 @@
 -- Minus a size that 31 bits hold.
 use Prim.Native.Nat.{ℕ, zero, suc, _≤_}
 use borrow.Author.Needs.{needs}
-use borrow.Author.Tests.{ltb-false}
 use native.Mathlib.Omega.{arith}
 use lib.IntN.{pos, negℤ, _-ℤ_, +ℤ-idl}
 use mir.Syntax.{w32}
