@@ -7,7 +7,7 @@ use mir.Val.{toZ, ofZ}
 use Rattle.directed.specs.Thousandths.{pair}
 use Rattle.directed.specs.Answer.{Outcome, built, in-range}
 use Rattle.directed.specs.declared.Interval.{Interval}
-use Rattle.arithmetic.specs.Ends.{product-bound}
+use Rattle.integers.specs.Sizes.{product-bound}
 use Rattle.arithmetic.specs.Product.{ends, Sized}
 
 -- what a signed field reads back

@@ -1,7 +1,6 @@
 -- Ends as the code holds them, in 64 bits.
 use mathlib.Core.Bool.{Bool, true, false, cond}
 use mathlib.Core.Path.{_≡_, refl}
-use Prim.Native.Nat.{ℕ}
 use lib.IntN.{ℤ}
 use lib.Signed.{leZ, _<ℤ_}
 use Rattle.integers.specs.Laws.{≤ℤ-antisym}
@@ -11,13 +10,6 @@ use Rattle.directed.specs.declared.Rounding.{Rounding}
 use Rattle.directed.specs.declared.Rounding.the-variants.{Outward, Inward}
 use Rattle.directed.specs.Choice.{if_then_else_}
 use Rattle.directed.specs.Thousandths.{smaller, larger}
-
--- the size of a difference of two ends, and of a product of two
-abbrev pub difference-bound : ℕ
-difference-bound = 4294967296
-
-abbrev pub product-bound : ℕ
-product-bound = 4611686018427387904
 
 -- whether the lower end is rounded up; the upper end goes the other way
 abbrev pub lower-up : Rounding → Bool

@@ -6,7 +6,8 @@ use Rattle.directed.specs.Thousandths.{Pair, dual}
 use Rattle.directed.specs.declared.Kind.{Kind}
 use Rattle.directed.specs.declared.Kind.the-variants.{Positive, Negative, ProperZero, ImproperZero}
 use Rattle.arithmetic.specs.declared.products.Ends.{Ends}
-use Rattle.arithmetic.specs.Ends.{product-bound, extreme}
+use Rattle.integers.specs.Sizes.{product-bound}
+use Rattle.arithmetic.specs.Ends.{extreme}
 use Rattle.arithmetic.specs.Selection.{chosen, turned}
 
 abbrev pub ends : ℤ → ℤ → Ends

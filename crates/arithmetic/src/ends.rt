@@ -5,7 +5,7 @@ ghost use lib.IntN.{natAbs, negℤ, _+ℤ_, _-ℤ_, _*ℤ_};
 ghost use Rattle.directed.specs.Thousandths.{pair};
 ghost use Rattle.directed.specs.Answer.{outcome, built, in-range};
 ghost use Rattle.arithmetic.specs.Ends as meaning;
-ghost use Rattle.arithmetic.specs.Ends.{difference-bound, product-bound};
+ghost use Rattle.integers.specs.Sizes.{difference-bound, product-bound};
 use directed::Answer;
 use directed::Cause;
 use directed::Interval;

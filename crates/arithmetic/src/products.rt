@@ -6,7 +6,7 @@ ghost use Rattle.directed.specs.Kind.{kind-of};
 ghost use Rattle.directed.specs.Lift.{pair-of};
 ghost use Rattle.directed.specs.Thousandths.{pair};
 ghost use Rattle.arithmetic.specs.Ends as meaning;
-ghost use Rattle.arithmetic.specs.Ends.{product-bound};
+ghost use Rattle.integers.specs.Sizes.{product-bound};
 ghost use Rattle.arithmetic.specs.Product as cases;
 use crate::ends;
 use crate::selection;

@@ -7,7 +7,8 @@ use mir.Syntax.{w64}
 use Rattle.integers.specs.Locals.{plain, got}
 use Rattle.integers.specs.Parts.{lin}
 use Rattle.arithmetic.specs.Division.{Divides}
-use Rattle.arithmetic.specs.Ends.{lower-up, product-bound}
+use Rattle.integers.specs.Sizes.{product-bound}
+use Rattle.arithmetic.specs.Ends.{lower-up}
 use Rattle.arithmetic.specs.ProductLaws.{thousandths}
 use Rattle.arithmetic.proofs.Shared.{landed}
 use Rattle.arithmetic.proofs.operations.rounded.Statement.{statement}

@@ -7,7 +7,8 @@ use lib.IntN.{ℤ, natAbs}
 use lib.Signed.{leZ}
 use mir.Syntax.{w64}
 use Rattle.integers.specs.Locals.{plain, got}
-use Rattle.arithmetic.specs.Ends.{extreme, product-bound}
+use Rattle.integers.specs.Sizes.{product-bound}
+use Rattle.arithmetic.specs.Ends.{extreme}
 use Rattle.arithmetic.proofs.products.extreme.Statement.{statement}
 use Rattle.arithmetic.proofs.products.extreme.Tie as tie
 

@@ -8,7 +8,7 @@ use lib.Signed.{natAbs-le}
 use mir.Syntax.{w32, w64}
 use mir.Val.{SFits, toZ, ofZ}
 use Rattle.integers.specs.Locals.{plain, got}
-use Rattle.integers.specs.Sizes.{abs-times-le}
+use Rattle.integers.specs.Sizes.{abs-times-le, difference-bound}
 use Rattle.arithmetic.specs.Division.{Divides}
 use Rattle.arithmetic.specs.QuotientLaws.{nearest-ratio-is, ratio-zero}
 use Rattle.arithmetic.proofs.quotients.ratio.Statement.{statement}
@@ -20,9 +20,9 @@ zero-bits d f e = sym (plain f) ∙ ap (toZ w32) e
 some-bits : (d : ℤ) → (ofZ w32 d ≡ 0 → ⊥) → d ≡ pos 0 → ⊥
 some-bits d e z = e (rw z refl)
 
-divides : (n d : ℤ) → natAbs n ≤ 4294967296 → (d ≡ pos 0 → ⊥) → SFits w32 d → Divides (n *ℤ pos 1000) d
+divides : (n d : ℤ) → natAbs n ≤ difference-bound → (d ≡ pos 0 → ⊥) → SFits w32 d → Divides (n *ℤ pos 1000) d
 divides n d h p f = record {
-  size = omega (arith, abs-times-le n (pos 1000) 4294967296 1000 h (omega arith));
+  size = omega (arith, abs-times-le n (pos 1000) difference-bound 1000 h (omega arith));
   by = omega (arith, natAbs-le d (f .sfits));
   some = p;
 }
