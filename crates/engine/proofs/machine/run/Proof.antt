@@ -14,7 +14,9 @@ use Rattle.engine.proofs.machine.run.Statement.{statement}
 use Rattle.engine.proofs.machine.run.Tie as tie
 
 abbrev Inv-loop : tie.InvT-loop
-Inv-loop program count way₀ stack₀ k₀ way stack k = (k ≤ count) × (stack .depth ≤ 16) × Going k (stack .depth) way (drop k (instructions-of program)) (drop k (turns-of program)) (values-of stack) (ran 0 way₀ (instructions-of program) (turns-of program) [])
+Inv-loop program count way₀ stack₀ k₀ way stack k =
+    (k ≤ count) × (stack .depth ≤ 16)
+    × Going k (stack .depth) way (drop k (instructions-of program)) (drop k (turns-of program)) (values-of stack) (ran 0 way₀ (instructions-of program) (turns-of program) [])
 
 abbrev μ-loop : tie.MeasureT-loop
 μ-loop program count way₀ stack₀ k₀ way stack k = count - k
@@ -25,10 +27,20 @@ sizes c =
     let f : length (c .args .t1 .turns) ≡ 64 = search needs in
     (omega (arith, c .pre .steps), omega (arith, c .pre .steps))
 
--- whatever an array is read as where it has no entry
+-- ---- the places of the code
+abbrev start-at : tie.In-loop Inv-loop μ-loop → tie.Start Inv-loop μ-loop
+start-at c = c .before .before .before
+
+abbrev loop-at : tie.After-turned Inv-loop μ-loop → tie.In-loop Inv-loop μ-loop
+loop-at c = c .before .before .before
+
+abbrev turned-at : tie.After-struct-known Inv-loop μ-loop → tie.After-turned Inv-loop μ-loop
+turned-at c = c .before .before .before .before .before .before
+
+-- ---- the step that is next, whatever an array is read as where it has no entry
 abbrev NextAt : tie.In-loop Inv-loop μ-loop → Instruction → Type 0
 NextAt c none =
-    let s = c .before .before .before .args in
+    let s = start-at c .args in
     let p = s .t1 in
     let l = c .before .loop in
     Next (l .k) (l .stack .depth) (way-after (getD (p .turns) (l .k) false) (l .way)) (getD (p .instructions) (l .k) none) (drop (l .k + 1) (instructions-of p))
@@ -36,9 +48,9 @@ NextAt c none =
 
 next-at : (c : tie.In-loop Inv-loop μ-loop) (none : Instruction) → NextAt c none
 next-at c none =
-    let p = c .before .before .before .args .t1 in
+    let p = start-at c .args .t1 in
     let l = c .before .loop in
-    let z = sizes (c .before .before .before) in
+    let z = sizes (start-at c) in
     next (p .count) (l .k) (p .instructions) (p .turns) (z .0) (z .1) _ _ _ _ (l .inv .2) none (omega arith)
 
 below : (d t : ℕ) → d - t + 1 ≤ 16 → d - t < 16
@@ -50,14 +62,17 @@ loop-holds c = rw (c .new .ensures) (omega arith, omega arith, record { fits = c
 
 returns : tie.Need-returns Inv-loop μ-loop
 returns c =
-    next-at (c .before .before .before .before .before .before .before) _ .refused _
-    (rw (c .before .answer2 .given .1, c .before .before .before .before .turned .ensures) at (c .before .before .before .step-answer .ensures))
+    let f = c .before .before .before .before in
+    next-at (loop-at f) _ .refused _ (rw (c .before .answer2 .given .1, f .turned .ensures) at (c .before .before .before .step-answer .ensures))
 
 loop-again : tie.Need-loop-again Inv-loop μ-loop
 loop-again c =
-    let q = going-put (c .before .before .before .before .before .before .before .before .before .before .before .loop .stack .items) (next-at (c .before .before .before .before .before .before .before .before .before .before) _) _ _ (c .put .result .depth) (c .put .result .items) (c .before .before .taken .ensures)
-    (rw (c .before .before .before .before .answer .given .1, c .before .before .before .before .before .before .before .turned .ensures) at (c .before .before .before .before .before .before .step-answer .ensures)) (c .put .ensures) in
-    (omega arith, q .0, rw (c .before .before .before .before .before .before .before .turned .ensures) (q .1))
+    let f = turned-at (c .before) in
+    let a = c .before .before .before .before in
+    let q =
+    going-put (loop-at f .before .loop .stack .items) (next-at (loop-at f) _) _ _ (c .put .result .depth) (c .put .result .items) (c .before .before .taken .ensures)
+    (rw (a .answer .given .1, f .turned .ensures) at (a .before .before .step-answer .ensures)) (c .put .ensures) in
+    (omega arith, q .0, rw (f .turned .ensures) (q .1))
 
 returns-2 : tie.Need-returns-2 Inv-loop μ-loop
 returns-2 c =
@@ -72,7 +87,7 @@ pub run-spec : {M : Type 1} → statement M
 run-spec =
     tie.close
     (tie.spec Inv-loop μ-loop (λ c κs. search needs) loop-holds (λ c. search needs) (λ c. search needs) (λ c. search needs) (λ c κs. search needs)
-    (λ c κs. (next-at (c .before .before .before) _ .enough, omega arith)) (λ c. search needs) (λ c κs. search needs)
-    (λ c. rw (c .before .taken .ensures) (next-at (c .before .before .before .before .before .before .before .before .before) _ .enough))
-    (λ c κs. rw (c .before .taken .ensures) (below _ _ (next-at (c .before .before .before .before .before .before .before .before .before) _ .room))) (λ c. search needs) returns (λ c. search needs) (λ c. search needs) loop-again
-    (λ c κs. search needs) returns-2)
+    (λ c κs. (next-at (loop-at c) _ .enough, omega arith)) (λ c. search needs) (λ c κs. search needs)
+    (λ c. rw (c .before .taken .ensures) (next-at (loop-at (turned-at c)) _ .enough))
+    (λ c κs. rw (c .before .taken .ensures) (below _ _ (next-at (loop-at (turned-at c)) _ .room))) (λ c. search needs) returns (λ c. search needs)
+    (λ c. search needs) loop-again (λ c κs. search needs) returns-2)
