@@ -42,7 +42,7 @@ module _ (t d : List ℕ) (at : ℕ) (h : at ≤ length d) where
   long : length (take at d ++ t) ≡ at + length t
   long = simp (length-append, length-take-le at d h)
 
-  put-take : take (at + length t) (put t at d) ≡ take at d ++ t
+  pub put-take : take (at + length t) (put t at d) ≡ take at d ++ t
   put-take = ap (take (at + length t)) parts ∙ take-at (take at d ++ t) (drop (at + length t) d) (at + length t) long
 
   put-drop : drop (at + length t) (put t at d) ≡ drop (at + length t) d
