@@ -18,12 +18,11 @@ use Rattle.decimal.specs.Digits.{digits, decimal}
 use Rattle.decimal.specs.DigitLaws.{All-digits, digit-bounds, digits-all, decimal-all}
 use Rattle.text.specs.Text.{text, end-text, sign-text, size-text}
 use Rattle.text.specs.Answer.{read}
-use Rattle.text.specs.RoundTrip.{text-reads-only}
+use Rattle.text.specs.RoundTrip.{got-pair, text-reads-only}
 use Rattle.lines.specs.declared.PairSeen.{PairSeen}
 use Rattle.lines.specs.declared.PairSeen.the-variants.{Found, Unsure}
 use Rattle.lines.specs.Scan.{absent, position, position-block}
 use Rattle.lines.specs.Line.{two, three}
-use Rattle.lines.specs.AnswerLaws.{got-pair}
 use Rattle.lines.specs.FieldLaws.{fields-behind, field-behind, none-behind, and-then}
 
 -- no space in a text

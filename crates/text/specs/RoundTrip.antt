@@ -13,13 +13,17 @@ use borrow.Author.Tests.{leb-true, leb-false, le-leb, lt-leb}
 use Rattle.directed.specs.declared.Interval.{Interval}
 use Rattle.directed.specs.Thousandths.{Pair, pair, outside, beyond-range}
 use Rattle.directed.specs.Choice.{if_then_else_}
-use Rattle.directed.specs.Lift.{pair-of, faulty}
-use Rattle.directed.specs.Answer.{Outcome, value, refusal, unless, given, sound, cause}
+use Rattle.directed.specs.Lift.{pair-of, interval, faulty}
+use Rattle.directed.specs.Answer.{Outcome, value, refusal, outcome, built, unless, given, sound, cause}
 use Rattle.decimal.specs.Place.{over}
 use Rattle.decimal.specs.Digits.{digits, width, width-within, decimal}
+use Rattle.directed.specs.declared.Answer.{Answer}
+use Rattle.directed.specs.declared.Answer.the-variants.{Value}
+use Rattle.text.specs.declared.Written.{Written}
+use Rattle.text.specs.declared.Written.the-variants.{Length}
 use Rattle.text.specs.Text.{text, end-text, sign-text, size-text, longest}
 use Rattle.text.specs.Form.{form, value-of}
-use Rattle.text.specs.Answer.{within-range, read, in-room, leaving, write}
+use Rattle.text.specs.Answer.{within-range, read, told, writing, in-room, leaving, write}
 use Rattle.text.specs.Range.{sound-range}
 use Rattle.text.specs.TextLaws.{Short, text-form, text-value, value-short, form-text, range-short}
 
@@ -174,3 +178,21 @@ module _ (a : Interval) (d : List ℕ) where
       go true f p c = let z : _≡_ {A = ℕ} 0 1 = cc in absurd (omega arith)
       go false true p c = let q : length t ≡ n = cc in rw (← q, take-append-seam t (drop (length t) d)) (text-reads-back (pair-of a) (sound-range a p))
       go false false p c = let z : _≡_ {A = ℕ} 0 1 = cc in absurd (omega arith)
+
+-- the same of what `write` and `read` return, with their contracts as the only premises
+
+pub got-pair : (s : Outcome Pair) (a : Interval) → built s ≡ value a → s ≡ value (pair-of a)
+got-pair (value p) a e = let g : interval p ≡ a = cc in ap (λ (a : Interval). value (pair-of a)) g
+got-pair (refusal n) a e = let z : _≡_ {A = ℕ} 0 1 = cc in absurd (omega arith)
+
+-- a printed pair reads back as the same pair
+pub returned-reads-back : (a : Interval) (d l : List ℕ) (w : Written) (n : ℕ) (o : Answer) → writing w l ≡ write a d → w ≡ Length n → outcome o ≡ built (read (take n l))
+    → outcome o ≡ value (interval (pair-of a))
+returned-reads-back a d l w n o e f g =
+    let b : l ≡ write a d .buffer = ap (λ x. x .buffer) e in
+    let r = written-reads-back a d n (ap (λ x. x .answer) (sym e) ∙ ap told f) in
+    g ∙ ap (λ x. built (read (take n x))) b ∙ ap built r
+
+-- and no other text reads as it
+pub returned-only : (t : List ℕ) (a : Interval) (o : Answer) → outcome o ≡ built (read t) → o ≡ Value a → t ≡ text (pair-of a)
+returned-only t a o e f = text-reads-only t (pair-of a) (got-pair (read t) a (sym e ∙ ap outcome f)) .0
