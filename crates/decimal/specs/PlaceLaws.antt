@@ -10,9 +10,9 @@ use lib.Dec.{leb}
 use lib.ListN.{length, take, drop, set, length-append, length-set, length-take, length-drop, take-append-drop}
 use lib.Seq.{drop-drop, take-at, drop-at, take-append-le, drop-append-le, take-take, length-take-le, set-split}
 use borrow.Author.Tests.{le-leb, lt-leb, leb-true}
-use Rattle.decimal.specs.Digits.{digits}
+use Rattle.decimal.specs.Digits.{digits, ten-million}
 use Rattle.decimal.specs.DigitLaws.{digits-length, digits-split}
-use Rattle.decimal.specs.Place.{over, put, Placement, placement, place, Placed}
+use Rattle.decimal.specs.Place.{over, put, placement, place, Placed}
 
 -- over the front
 pub put-front : (t d : List ℕ) → put t 0 d ≡ over t d
@@ -180,10 +180,10 @@ put-two (suc (suc k)) n at d t u h l e f =
 
 -- the last seven of k
 pub put-seven : (k n at : ℕ) (d : List ℕ) → 7 < k → at + k ≤ length d
-    → put (digits (k - 7) (n / 10000000)) at (put (digits 7 (n % 10000000)) (at + (k - 7)) d) ≡ put (digits k n) at d
+    → put (digits (k - 7) (n / ten-million)) at (put (digits 7 (n % ten-million)) (at + (k - 7)) d) ≡ put (digits k n) at d
 put-seven k n at d h l =
     let e : k - 7 + 7 ≡ k = omega arith in
-    let m = digits-length (k - 7) (n / 10000000) in
-    ap (λ i. put (digits (k - 7) (n / 10000000)) at (put (digits 7 (n % 10000000)) (at + i) d)) (sym m)
-    ∙ put-before (digits (k - 7) (n / 10000000)) (digits 7 (n % 10000000)) d at (omega arith)
+    let m = digits-length (k - 7) (n / ten-million) in
+    ap (λ i. put (digits (k - 7) (n / ten-million)) at (put (digits 7 (n % ten-million)) (at + i) d)) (sym m)
+    ∙ put-before (digits (k - 7) (n / ten-million)) (digits 7 (n % ten-million)) d at (omega arith)
     ∙ ap (λ t. put t at d) (sym (digits-split (k - 7) n) ∙ ap (λ i. digits i n) e)

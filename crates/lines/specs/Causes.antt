@@ -13,7 +13,6 @@ use Rattle.directed.specs.declared.Answer.{Answer}
 use Rattle.directed.specs.declared.Rounding.{Rounding}
 use Rattle.directed.specs.declared.Binary.{Binary}
 use Rattle.directed.specs.declared.Binary.the-variants.{Sum, Difference, Product, Quotient, Join, Meet}
-use Rattle.directed.specs.Choice.{if_then_else_}
 use Rattle.directed.specs.Exact.{Sort, zero-free, holds-zero, sort}
 use Rattle.directed.specs.Operations as operations
 use Rattle.directed.specs.Thousandths.{Pair, exact, beyond-range, rounded}

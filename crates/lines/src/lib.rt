@@ -21,6 +21,9 @@ use directed::Cause;
 use directed::Interval;
 use directed::Rounding;
 
+// The longest line, its byte 10 not counted.
+const LONGEST: usize = 96;
+
 // What the first field of a line says.
 enum FirstField {
     Rounds(Rounding),
@@ -257,7 +260,7 @@ fn from_second(rounding: Rounding, line: &[u8], from: usize) -> Answer
 pub fn answer(line: &[u8]) -> Answer
     ensures { λ r. ⌜ outcome r ≡ built (answer-of (now (line .entry))) ⌝ }
 {
-    if 96 < line.len() {
+    if LONGEST < line.len() {
         return Answer::Refused(Cause::MalformedLine);
     }
     let end = scan::find_near(b' ', line, 0);

@@ -1,5 +1,5 @@
 -- Steps of the reader of a pair: the two ends in turn, and the range.
-use mathlib.Core.Path.{_≡_, refl, sym, ap, ap₂, _∙_}
+use mathlib.Core.Path.{_≡_, refl, sym, ap, _∙_}
 use mathlib.Core.Bool.{Bool, true, false, cond, _&&_, _||_}
 use mathlib.Core.List.{List}
 use Prim.Native.Nat.{ℕ, _+_, _≤_}
@@ -16,7 +16,7 @@ use Rattle.text.specs.declared.end.End.{End}
 use Rattle.text.specs.declared.end.EndRead.the-variants as E
 use Rattle.decimal.specs.Digits.{starts}
 use Rattle.text.specs.Text.{minus, opening, comma, closing}
-use Rattle.text.specs.Form.{size, unsigned, end-form, signed, end-value, end-length, from-lower, behind-lower, from-upper, behind-upper, form, value-of}
+use Rattle.text.specs.Form.{size, unsigned, end-form, end-value, end-length, from-lower, behind-lower, from-upper, behind-upper, form, value-of}
 use Rattle.text.specs.Answer.{within-range, read}
 use Rattle.text.specs.Parts.{end-answer, ends-of, upper-answer, lower-answer, ends-answer}
 use Rattle.decimal.specs.DigitLaws.{starts-inside}

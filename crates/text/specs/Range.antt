@@ -7,7 +7,7 @@ use lib.Dec.{ltb}
 use lib.IntN.{ℤ, pos, negsuc, natAbs}
 use borrow.Author.Tests.{ltb-true, ltb-false, lt-ltb, le-ltb}
 use Rattle.directed.specs.declared.Interval.{Interval}
-use Rattle.directed.specs.Thousandths.{Pair, pair, outside, beyond-range}
+use Rattle.directed.specs.Thousandths.{Pair, outside, beyond-range}
 use Rattle.directed.specs.Lift.{pair-of, interval, faulty}
 use Rattle.text.specs.Form.{signed}
 

@@ -17,6 +17,9 @@ ghost use Rattle.text.specs.Parts.{ends-of};
 mod digits;
 mod end;
 
+// The longest text.
+const LONGEST: usize = 27;
+
 // What writing answers: the length of the text, or why it is refused.
 pub enum Written {
     Length(usize),
@@ -81,11 +84,11 @@ pub fn read(text: &[u8]) -> Answer
     }
 }
 
-// Whether the text of two ends finds room. The longest has 27 bytes, so mostly no length is computed.
+// Whether the text of two ends finds room. Mostly no length is computed.
 fn has_room(lower: i32, upper: i32, room: usize) -> bool
     ensures { λ r. ⌜ r ≡ leb (length (text (pair lower upper))) room ⌝ }
 {
-    if 27 <= room {
+    if LONGEST <= room {
         return true;
     }
     end::end_length(lower) + end::end_length(upper) + 3 <= room
