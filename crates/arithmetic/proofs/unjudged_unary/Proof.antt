@@ -24,13 +24,5 @@ returns-3 c = rw (c .before .enum-told3 .given .1) (c .dual .ensures)
 pub unjudged-unary-spec : {M : Type 1} → statement M
 unjudged-unary-spec =
     tie.close
-    (tie.spec
-    (λ c. search needs)
-    (λ c κs. search needs)
-    (λ c. search needs)
-    (λ c κs. search needs)
-    (λ c. search needs)
-    (λ c κs. search needs)
-    returns
-    returns-2
-    returns-3)
+    (tie.spec (λ c. search needs) (λ c κs. search needs) (λ c. search needs) (λ c κs. search needs) (λ c. search needs) (λ c κs. search needs) returns
+    returns-2 returns-3)

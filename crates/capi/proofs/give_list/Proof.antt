@@ -32,14 +32,5 @@ returns-2 c = effect-refusal _ (ap (λ (a : ListAnswer). paired-result (outcome 
 pub give-list-spec : {M : Type 1} → statement M
 give-list-spec =
     tie.close
-    (tie.spec
-    (λ c. search needs)
-    (λ c κs. search needs)
-    (λ c. search needs)
-    (λ c κs. search needs)
-    (λ c. search needs)
-    cast-result-2
-    mul-result
-    add-result
-    returns
-    returns-2)
+    (tie.spec (λ c. search needs) (λ c κs. search needs) (λ c. search needs) (λ c κs. search needs) (λ c. search needs) cast-result-2 mul-result
+    add-result returns returns-2)

@@ -53,29 +53,10 @@ returns-2 c =
 pub fill-digits-spec : {M : Type 1} → statement M
 fill-digits-spec =
     tie.close
-    (tie.spec
-    Inv-loop
-    μ-loop
-    (λ c. (omega arith, refl, refl))
-    (λ c. omega arith)
-    (λ c. omega (arith, tenth (c .before .loop .rest % 100) (omega arith)))
-    (λ c. omega (arith, tenth (c .before .loop .rest % 100) (omega arith)))
-    (λ c. omega (arith, tenth (c .before .loop .rest % 100) (omega arith)))
-    (λ c. omega (arith, tenth (c .before .loop .rest % 100) (omega arith)))
-    (λ c. omega arith)
-    (λ c. omega arith)
-    (λ c. omega (arith, c .before .loop .inv .1, c .before .before .pre))
-    (λ c. omega (arith, tenth (c .before .loop .rest % 100) (omega arith)))
-    (λ c. omega (arith, tenth (c .before .loop .rest % 100) (omega arith)))
-    (λ c. omega arith)
-    (λ c. omega arith)
-    slice-write-buffer-2
-    (λ c. omega arith)
-    loop-again
-    (λ c. search needs)
-    (λ c. search needs)
-    slice-write-buffer-3
-    (λ c. simp length-set (c .before .before .loop .inv .1))
-    returns
-    (λ c. c .before .before .loop .inv .1)
-    returns-2)
+    (tie.spec Inv-loop μ-loop (λ c. (omega arith, refl, refl)) (λ c. omega arith)
+    (λ c. omega (arith, tenth (c .before .loop .rest % 100) (omega arith))) (λ c. omega (arith, tenth (c .before .loop .rest % 100) (omega arith)))
+    (λ c. omega (arith, tenth (c .before .loop .rest % 100) (omega arith))) (λ c. omega (arith, tenth (c .before .loop .rest % 100) (omega arith)))
+    (λ c. omega arith) (λ c. omega arith) (λ c. omega (arith, c .before .loop .inv .1, c .before .before .pre))
+    (λ c. omega (arith, tenth (c .before .loop .rest % 100) (omega arith))) (λ c. omega (arith, tenth (c .before .loop .rest % 100) (omega arith)))
+    (λ c. omega arith) (λ c. omega arith) slice-write-buffer-2 (λ c. omega arith) loop-again (λ c. search needs) (λ c. search needs)
+    slice-write-buffer-3 (λ c. simp length-set (c .before .before .loop .inv .1)) returns (λ c. c .before .before .loop .inv .1) returns-2)

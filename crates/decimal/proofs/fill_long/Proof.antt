@@ -45,17 +45,5 @@ returns c = c .before .before .fill-digits2 .ensures ∙ c .before .before .befo
 pub fill-long-spec : {M : Type 1} → statement M
 fill-long-spec =
     tie.close
-    (tie.spec
-    Inv-loop
-    μ-loop
-    (λ c. (omega arith, c .before .pre .0, refl, refl))
-    (λ c. omega arith)
-    (λ c. omega arith)
-    (λ c. omega arith)
-    (λ c κs. omega arith)
-    (λ c. omega arith)
-    loop-again
-    (λ c. omega (arith, few c))
-    (λ c κs. omega arith)
-    (λ c. search needs)
-    returns)
+    (tie.spec Inv-loop μ-loop (λ c. (omega arith, c .before .pre .0, refl, refl)) (λ c. omega arith) (λ c. omega arith) (λ c. omega arith)
+    (λ c κs. omega arith) (λ c. omega arith) loop-again (λ c. omega (arith, few c)) (λ c κs. omega arith) (λ c. search needs) returns)

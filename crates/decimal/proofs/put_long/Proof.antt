@@ -38,11 +38,5 @@ returns-2 c =
 pub put-long-spec : {M : Type 1} → statement M
 put-long-spec =
     tie.close
-    (tie.spec
-    (λ c κs. search needs)
-    (λ c κs. search needs)
-    returns
-    fill-long-requires
-    (λ c. omega (arith, room (c .before .before .before .before)))
-    (λ c. search needs)
-    returns-2)
+    (tie.spec (λ c κs. search needs) (λ c κs. search needs) returns fill-long-requires (λ c. omega (arith, room (c .before .before .before .before)))
+    (λ c. search needs) returns-2)

@@ -41,16 +41,5 @@ returns-5 c = width-is _ 10 (record { some = omega arith; enough = omega arith; 
 pub width-of-spec : {M : Type 1} → statement M
 width-of-spec =
     tie.close
-    (tie.spec
-    Inv-loop
-    μ-loop
-    (λ c. omega arith)
-    (λ c κs. omega arith)
-    returns
-    (λ c. omega arith)
-    (λ c. omega arith)
-    loop-again
-    returns-2
-    returns-3
-    returns-4
-    returns-5)
+    (tie.spec Inv-loop μ-loop (λ c. omega arith) (λ c κs. omega arith) returns (λ c. omega arith) (λ c. omega arith) loop-again returns-2 returns-3
+    returns-4 returns-5)

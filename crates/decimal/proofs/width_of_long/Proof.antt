@@ -28,14 +28,5 @@ returns c = omega (arith, c .width-of .ensures, c .before .before .loop .inv .1)
 pub width-of-long-spec : {M : Type 1} → statement M
 width-of-long-spec =
     tie.close
-    (tie.spec
-    Inv-loop
-    μ-loop
-    (λ c. omega arith)
-    (λ c. omega arith)
-    (λ c. omega arith)
-    loop-again
-    (λ c. omega arith)
-    (λ c κs. search needs)
-    add-result
+    (tie.spec Inv-loop μ-loop (λ c. omega arith) (λ c. omega arith) (λ c. omega arith) loop-again (λ c. omega arith) (λ c κs. search needs) add-result
     returns)

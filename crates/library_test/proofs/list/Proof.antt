@@ -14,10 +14,5 @@ slice-aggregate-evaluate c = sym (length-take-le _ _ (c .before .before .bytes-o
 pub list-spec : {M : Type 1} → statement M
 list-spec =
     tie.close
-    (tie.spec
-    (λ c κs. search needs)
-    array-share-prefix-list
-    slice-aggregate-evaluate
-    (λ c κs. search needs)
-    (λ c κs. search needs)
+    (tie.spec (λ c κs. search needs) array-share-prefix-list slice-aggregate-evaluate (λ c κs. search needs) (λ c κs. search needs)
     (λ c. search needs))

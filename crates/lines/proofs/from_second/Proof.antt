@@ -60,17 +60,5 @@ returns-3 c = let a = c .before .before .before .before .before .before .args in
 pub from-second-spec : {M : Type 1} → statement M
 from-second-spec =
     tie.close
-    (tie.spec
-    (λ c κs. search needs)
-    (λ c. search needs)
-    (λ c. search needs)
-    part-second-of-end
-    (λ c κs. search needs)
-    (λ c. search needs)
-    two-fields-requires
-    enum-told
-    three-fields-requires
-    (λ c. search needs)
-    returns
-    returns-2
-    returns-3)
+    (tie.spec (λ c κs. search needs) (λ c. search needs) (λ c. search needs) part-second-of-end (λ c κs. search needs) (λ c. search needs)
+    two-fields-requires enum-told three-fields-requires (λ c. search needs) returns returns-2 returns-3)

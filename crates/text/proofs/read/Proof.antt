@@ -90,20 +90,5 @@ returns-5 c =
 pub read-spec : {M : Type 1} → statement M
 read-spec =
     tie.close
-    (tie.spec
-    Inv-loop
-    μ-loop
-    returns
-    shared-slice-read-if2
-    returns-2
-    loop-holds
-    (λ c κs. search needs)
-    read-end-requires
-    (λ c. search needs)
-    returns-3
-    (λ c κs. search needs)
-    returns-4
-    loop-less
-    loop-again
-    (λ c. search needs)
-    returns-5)
+    (tie.spec Inv-loop μ-loop returns shared-slice-read-if2 returns-2 loop-holds (λ c κs. search needs) read-end-requires (λ c. search needs)
+    returns-3 (λ c κs. search needs) returns-4 loop-less loop-again (λ c. search needs) returns-5)

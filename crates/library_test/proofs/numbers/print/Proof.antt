@@ -23,14 +23,5 @@ cast-print-decimal-2 c = rw (plain (c .before .fits .e)) (above-natural (c .befo
 pub print-spec : {M : Type 1} → statement M
 print-spec =
     tie.close
-    (tie.spec
-    (λ c. search needs)
-    (λ c κs. search needs)
-    sub-print-decimal
-    cast-print-decimal
-    add-print-decimal
-    (λ c κs. search needs)
-    cast-print-decimal-2
-    (λ c κs. search needs)
-    (λ c. search needs)
-    (λ c. search needs))
+    (tie.spec (λ c. search needs) (λ c κs. search needs) sub-print-decimal cast-print-decimal add-print-decimal (λ c κs. search needs)
+    cast-print-decimal-2 (λ c κs. search needs) (λ c. search needs) (λ c. search needs))
