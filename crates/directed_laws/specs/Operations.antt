@@ -2,7 +2,8 @@
 use mathlib.Core.Bool.{false}
 use mathlib.Core.List.{List, [], _∷_}
 use mathlib.Core.Path.{_≡_, _∙_, refl, ap}
-use Rattle.directed.specs.Answer.{Outcome, outcome, built, Judgement, sound, divisor, stop, in-range, unjudged-unary, unjudged-binary, unary, binary, value}
+use Prim.Native.Nat.{ℕ}
+use Rattle.directed.specs.Answer.{Outcome, outcome, built, Judgement, sound, cause, divisor, stop, in-range, unjudged-unary, unjudged-binary, unary, binary, value}
 use Rattle.directed.specs.Exact.{Exact, Sort, sort, zero-free, holds-zero}
 use Rattle.directed.specs.Lift.{pair-of}
 use Rattle.directed.specs.Operations as operations
@@ -18,22 +19,28 @@ use Rattle.directed_laws.specs.Answer.{judged, Between, Exactly, judged-
 use Rattle.directed_laws.specs.Thousandths.{unary-rounded, unary-range, join-rounded, meet-rounded, join-range, meet-range}
 
 -- ---- what stops an operation is 5 or nothing
-pub sound-between : Between sound
+pub divisor-5 : (k : Sort) {n : ℕ} → divisor k ≡ cause n → 5 ≡ n
+unfolding divisor
+divisor-5 (zero-free s) e = absurd (sound-cause e)
+divisor-5 (holds-zero t) e = cc
+
+pub stop-5 : (op : Binary) (k : Sort) {n : ℕ} → stop op k ≡ cause n → 5 ≡ n
+unfolding stop
+stop-5 Sum k e = absurd (sound-cause e)
+stop-5 Difference k e = absurd (sound-cause e)
+stop-5 Product k e = absurd (sound-cause e)
+stop-5 Quotient k e = divisor-5 k e
+stop-5 Join k e = absurd (sound-cause e)
+stop-5 Meet k e = absurd (sound-cause e)
+
+sound-between : Between sound
 sound-between n e = absurd (sound-cause e)
 
 pub divisor-between : (k : Sort) → Between (divisor k)
-unfolding divisor
-divisor-between (zero-free s) n e = absurd (sound-cause e)
-divisor-between (holds-zero t) n e = let f : 5 ≡ n = cc in rw (← f) (refl, refl)
+divisor-between k n e = rw (← divisor-5 k e) (refl, refl)
 
 stop-between : (op : Binary) (k : Sort) → Between (stop op k)
-unfolding stop
-stop-between Sum k = sound-between
-stop-between Difference k = sound-between
-stop-between Product k = sound-between
-stop-between Quotient k = divisor-between k
-stop-between Join k = sound-between
-stop-between Meet k = sound-between
+stop-between op k n e = rw (← stop-5 op k e) (refl, refl)
 
 -- ---- the answers by their causes and their exact result
 unary-judged : (rounding : Rounding) (op : Unary) (a : Interval) → unary op a ≡ judged rounding (a ∷ []) sound (operations.unary op (exact (pair-of a)))

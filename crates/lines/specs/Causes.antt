@@ -12,10 +12,10 @@ use borrow.Author.Tests.{lt-ltb, le-ltb, ltb-true, ltb-false, eq-eqb, ne-eqb, eq
 use Rattle.directed.specs.declared.Answer.{Answer}
 use Rattle.directed.specs.declared.Rounding.{Rounding}
 use Rattle.directed.specs.declared.Binary.{Binary}
-use Rattle.directed.specs.declared.Binary.the-variants.{Sum, Difference, Product, Quotient, Join, Meet}
-use Rattle.directed.specs.Exact.{Sort, zero-free, holds-zero, sort}
+use Rattle.directed.specs.Exact.{sort}
 use Rattle.directed.specs.Operations as operations
 use Rattle.directed.specs.Thousandths.{Pair, exact, beyond-range, rounded}
+use Rattle.directed_laws.specs.Operations.{divisor-5, stop-5}
 use Rattle.directed.specs.Answer.{Outcome, refusal, outcome, built, Judgement, sound, cause, unless, divisor, stop, in-range, unjudged-binary}
 use Rattle.directed.specs.Answer as answers
 use Rattle.directed.specs.Equation.{solution, unjudged-equation}
@@ -78,12 +78,11 @@ pub data Answered (l : List ℕ) : Outcome Pair → Type 0 where
   second-letter : {r : Rounding} {ps : List (List ℕ)} → Letters l r NoOperation ps → Answered l (refusal 6)
   wrong-count : {r : Rounding} {o : SecondField} {ps : List (List ℕ)} → Letters l r o ps → known o ≡ true → (length ps ≡ wants o → ⊥) → Answered l (refusal 12)
   pair-refused : {r : Rounding} {o : SecondField} {ps : List (List ℕ)} {k : ℕ} → Letters l r o ps → known o ≡ true → length ps ≡ wants o → Bad ps k → Answered l (refusal k)
-  zero-divisor : {r : Rounding} {o : SecondField} {ps : List (List ℕ)} {j : Judgement} {v : Pair} → Letters l r o ps → Good ps → Asks r o (pairs ps) j v → j ≡ cause 5
-      → Answered l (refusal 5)
-  result-beyond : {r : Rounding} {o : SecondField} {ps : List (List ℕ)} {j : Judgement} {v : Pair} → Letters l r o ps → Good ps → Asks r o (pairs ps) j v → j ≡ sound
-      → beyond-range v ≡ true → Answered l (refusal 4)
-  value : {r : Rounding} {o : SecondField} {ps : List (List ℕ)} {j : Judgement} {v : Pair} → Letters l r o ps → Good ps → Asks r o (pairs ps) j v → j ≡ sound
-      → beyond-range v ≡ false → Answered l (answers.value v)
+  zero-divisor : {r : Rounding} {o : SecondField} {ps : List (List ℕ)} {v : Pair} → Letters l r o ps → Good ps → Asks r o (pairs ps) (cause 5) v → Answered l (refusal 5)
+  result-beyond : {r : Rounding} {o : SecondField} {ps : List (List ℕ)} {v : Pair} → Letters l r o ps → Good ps → Asks r o (pairs ps) sound v → beyond-range v ≡ true
+      → Answered l (refusal 4)
+  value : {r : Rounding} {o : SecondField} {ps : List (List ℕ)} {v : Pair} → Letters l r o ps → Good ps → Asks r o (pairs ps) sound v → beyond-range v ≡ false
+      → Answered l (answers.value v)
 
 -- ---- the pairs from the left, and then the operation
 
@@ -155,33 +154,19 @@ pairs-many [] = refl
 pairs-many (p ∷ ps) = ap suc (pairs-many ps)
 
 -- what stops an operation is 5, if anything
-data Stopped : Judgement → Type 0 where
-  not : Stopped sound
-  by-zero : Stopped (cause 5)
-
-divisor-stopped : (k : Sort) → Stopped (divisor k)
-unfolding divisor
-divisor-stopped (zero-free s) = not
-divisor-stopped (holds-zero t) = by-zero
-
-stop-stopped : (op : Binary) (k : Sort) → Stopped (stop op k)
-unfolding stop
-stop-stopped Sum k = not
-stop-stopped Difference k = not
-stop-stopped Product k = not
-stop-stopped Quotient k = divisor-stopped k
-stop-stopped Join k = not
-stop-stopped Meet k = not
+asks-5 : {r : Rounding} {o : SecondField} {qs : List Pair} {j : Judgement} {v : Pair} {n : ℕ} → Asks r o qs j v → j ≡ cause n → 5 ≡ n
+asks-5 (of-two op a b) e = stop-5 op (sort (exact b)) e
+asks-5 (of-equation a c b) e = divisor-5 (sort (exact c)) e
 
 data Asked (r : Rounding) (o : SecondField) (qs : List Pair) : Type 0 where
-  asked : {j : Judgement} {v : Pair} → Asks r o qs j v → Stopped j → Asked r o qs
+  asked : (j : Judgement) (v : Pair) → Asks r o qs j v → Asked r o qs
 
 asks : (r : Rounding) (o : SecondField) (qs : List Pair) → known o ≡ true → length qs ≡ wants o → Asked r o qs
-asks r (Two op) (a ∷ b ∷ []) k h = asked (of-two op a b) (stop-stopped op (sort (exact b)))
+asks r (Two op) (a ∷ b ∷ []) k h = asked _ _ (of-two op a b)
 asks r (Two op) [] k h = absurd (omega arith)
 asks r (Two op) (a ∷ []) k h = absurd (omega arith)
 asks r (Two op) (a ∷ b ∷ c ∷ qs) k h = absurd (omega arith)
-asks r Equation (a ∷ c ∷ b ∷ []) k h = asked (of-equation a c b) (divisor-stopped (sort (exact c)))
+asks r Equation (a ∷ c ∷ b ∷ []) k h = asked _ _ (of-equation a c b)
 asks r Equation [] k h = absurd (omega arith)
 asks r Equation (a ∷ []) k h = absurd (omega arith)
 asks r Equation (a ∷ c ∷ []) k h = absurd (omega arith)
@@ -209,20 +194,20 @@ module _ {l : List ℕ} where
   answered-is (second-letter t) = letters-is t
   answered-is (wrong-count {r} {o} {ps} t k n) = letters-is t ∙ operate-is r o ps k ∙ rw (ne-eqb (length ps) (wants o) n)
   answered-is (pair-refused {r} {o} t k h b) = count-is t k h ∙ with-bad b (computed r o)
-  answered-is (zero-divisor t g a e) = asks-answer t g a ∙ rw e
-  answered-is (result-beyond t g a e b) = asks-answer t g a ∙ rw (e, b)
-  answered-is (value t g a e b) = asks-answer t g a ∙ rw (e, b)
+  answered-is (zero-divisor t g a) = asks-answer t g a
+  answered-is (result-beyond t g a b) = asks-answer t g a ∙ rw b
+  answered-is (value t g a b) = asks-answer t g a ∙ rw b
 
 -- ---- and one of them holds
 
 module _ (l : List ℕ) where
   of-result : {r : Rounding} {o : SecondField} {ps : List (List ℕ)} → Letters l r o ps → Good ps → Asked r o (pairs ps) → (x : Outcome Pair) × Answered l x
-  of-result t g (asked a by-zero) = (refusal 5, zero-divisor t g a refl)
-  of-result t g (asked {v = v} a not) = go (beyond-range v) refl
+  of-result t g (asked (cause n) v a) = (refusal 5, zero-divisor {v = v} t g (rw (asks-5 a refl) a))
+  of-result t g (asked sound v a) = go (beyond-range v) refl
     where
       go : (b : Bool) → beyond-range v ≡ b → (x : Outcome Pair) × Answered l x
-      go true b = (refusal 4, result-beyond t g a refl b)
-      go false b = (answers.value v, value t g a refl b)
+      go true b = (refusal 4, result-beyond t g a b)
+      go false b = (answers.value v, value t g a b)
 
   of-letters : {r : Rounding} {o : SecondField} {ps : List (List ℕ)} → Letters l r o ps → known o ≡ true → (x : Outcome Pair) × Answered l x
   of-letters {r} {o} {ps} t k = go (eqb (length ps) (wants o)) refl (judged ps)

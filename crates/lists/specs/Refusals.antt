@@ -8,14 +8,14 @@ use Prim.Native.Nat.{ℕ}
 use Rattle.directed.specs.declared.Rounding.{Rounding}
 use Rattle.directed.specs.declared.Unary.{Unary}
 use Rattle.directed.specs.declared.Binary.{Binary}
-use Rattle.directed.specs.declared.Binary.the-variants.{Sum, Difference, Product, Quotient, Join, Meet}
-use Rattle.directed.specs.Exact.{Sort, zero-free, holds-zero, sort}
+use Rattle.directed.specs.Exact.{sort}
 use Rattle.directed.specs.Operations as operations
 use Rattle.directed.specs.Thousandths as thousandths
 use Rattle.directed.specs.Thousandths.{Pair, exact, beyond-range, rounded, under}
 use Rattle.directed.specs.Answer as answers
-use Rattle.directed.specs.Answer.{Outcome, Judgement, sound, cause, unless, divisor, stop, in-range, unjudged-unary, unjudged-binary}
-use Rattle.directed_laws.specs.Answer.{refusal-value, sound-cause}
+use Rattle.directed.specs.Answer.{Outcome, Judgement, sound, cause, unless, stop, in-range, unjudged-unary, unjudged-binary}
+use Rattle.directed_laws.specs.Answer.{refusal-value}
+use Rattle.directed_laws.specs.Operations.{stop-5}
 use Rattle.lists.specs.Lists.{Result, value, refusal, at, after, Expression, constant, one, two, read, evaluated, answer}
 use Rattle.lists.specs.Results.{value-refusal}
 use Rattle.lists.specs.Endings.{Ending, ends, ending-is}
@@ -46,16 +46,6 @@ blame-is (in-first b) = rw (blame-is b)
 blame-is (in-second e b) = rw (e, blame-is b)
 
 -- ---- what refuses a step is what stops its operation, 5, or its result, 4
-stop-5 : (g : Binary) (s : Sort) {n : ℕ} → stop g s ≡ cause n → 5 ≡ n
-unfolding stop divisor
-stop-5 Sum s e = absurd (sound-cause e)
-stop-5 Difference s e = absurd (sound-cause e)
-stop-5 Product s e = absurd (sound-cause e)
-stop-5 Quotient (zero-free s) e = absurd (sound-cause e)
-stop-5 Quotient (holds-zero t) e = cc
-stop-5 Join s e = absurd (sound-cause e)
-stop-5 Meet s e = absurd (sound-cause e)
-
 in-range-4 : {n : ℕ} (p : Pair) → in-range p ≡ answers.refusal n → (4 ≡ n) × (beyond-range p ≡ true)
 unfolding in-range
 in-range-4 {n} p e = go (beyond-range p) e
