@@ -100,7 +100,10 @@ uint32_t dzb_write(int32_t lower, int32_t upper, uint8_t *buffer, size_t length,
 /* ---- lists of steps, lines */
 
 /* The value of a list of steps in a way: both ends of `result` are written. Refused, with nothing written: at a step 10, 6, 7, 2, 8 or 9, or
- * at the end 11, or only then 4. The number returned has the step too: see dzb_number and dzb_step. */
+ * at the end 11, or only then 5 or 4 at the earliest step that has one of them, 5 before 4 at one step: a divisor is looked at as it was
+ * rounded. The number returned has the step too: see dzb_number and dzb_step.
+ * A step is one byte: 0 constant (8 bytes follow: lower, upper, 32-bit two's complement, low byte first), 1 sum, 2 difference, 3 product,
+ * 4 negation, 5 opposite, 6 dual, 7 join, 8 meet, 9 quotient. */
 uint32_t dzb_list(const uint8_t *list, size_t length, bool inward, dzb_pair result);
 
 /* The answer to a line of the slip program, its byte 10 not among the bytes given: `O` or `I`, one of `A S M D E`, and the pairs, cut at

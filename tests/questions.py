@@ -10,7 +10,8 @@ def const(l, u=None):
     return b'\0' + struct.pack('<ii', l, l if u is None else u)
 
 
-SUM, DIFF, MUL, NEG, OPP, DUAL, JOIN, MEET = (bytes([code]) for code in range(1, 9))
+SUM, DIFF, MUL, NEG, OPP, DUAL, JOIN, MEET, DIV = (bytes([code]) for code in range(1, 10))
+UNKNOWN = bytes([10])
 ONE, SOME = const(1000), const(1001)
 MANY = const(GREATEST) * 2
 WIDE = const(0, 1001) + const(0, 1998001999)  # their product's exact upper end lies between 2000000.000 and 2000000.001
@@ -211,14 +212,15 @@ LISTS = [
         const(1000, 5000) + DUAL,
         const(-12000, -3000) + const(4000, 7000) + JOIN,
         const(-12000, -3000) + const(4000, 7000) + MEET,
+        const(1000, 2000) + const(3000, 4000) + DIV,
     ]),
     ('9 at the last step', 'O', [
         ONE * 16 + NEG * 47 + ONE,
     ]),
     ('6 at the first and at the last step', 'O', [
-        b'\x09',
+        UNKNOWN,
         b'\xff',
-        ONE + NEG * 62 + b'\x09',
+        ONE + NEG * 62 + UNKNOWN,
     ]),
     ('7 at the first and at the last step', 'O', [
         b'\0',
@@ -250,14 +252,14 @@ LISTS = [
     ]),
     ('4 after 11 and after 6', 'O', [
         MANY + SUM + ONE,
-        MANY + SUM + b'\x09',
+        MANY + SUM + UNKNOWN,
     ]),
     ('4 in the way wanted alone: outward only, then below a dual', 'OI', [
         WIDE + MUL,
         WIDE + MUL + DUAL,
     ]),
     ('two causes at one step: 10 before 6, 7, 2, 8 and 9', 'O', [
-        ONE + NEG * 63 + b'\x09',
+        ONE + NEG * 63 + UNKNOWN,
         ONE + NEG * 63 + b'\0',
         ONE + NEG * 63 + const(GREATEST + 1),
         ONE + NEG * 63 + SUM,
@@ -269,7 +271,19 @@ LISTS = [
         ONE * 16 + const(GREATEST + 1),
     ]),
     ('the earlier step before the earlier cause', 'O', [
-        NEG + b'\x09',
+        NEG + UNKNOWN,
+    ]),
+    ('Q-1: 5 with its step; the earliest of 5 and 4; 5 before 4 at one step; 5 after 11', 'O', [
+        ONE + const(0, 1) + DIV,
+        ONE + const(0, 1) + DIV + MANY + SUM + SUM,
+        MANY + SUM + ONE + const(0, 1) + DIV + SUM,
+        const(GREATEST) + const(0) + DIV,
+        ONE + const(0, 1) + DIV + ONE,
+    ]),
+    ('Q-1: a quotient below a dual; a rounded divisor that holds zero, and one that does not though the exact one does', 'OI', [
+        ONE + const(3000) + DIV + DUAL,
+        ONE + const(1) + const(1) + MUL + DIV,
+        ONE + const(500) + const(1) + MUL + const(-500) + const(1) + MUL + SUM + const(0, 3) + SUM + DIV,
     ]),
     ('the low byte first', 'O', [
         bytes([0, 1, 2, 3, 4, 250, 255, 255, 255]),

@@ -145,7 +145,7 @@ def operation(way, name, pairs):
 # ---- "Lists of steps"
 
 CONSTANT = 0
-CODES = {1: 'sum', 2: 'difference', 3: 'product', 4: 'negation', 5: 'opposite', 6: 'dual', 7: 'join', 8: 'meet'}
+CODES = {1: 'sum', 2: 'difference', 3: 'product', 4: 'negation', 5: 'opposite', 6: 'dual', 7: 'join', 8: 'meet', 9: 'quotient'}
 TURNING = ('opposite', 'dual')
 
 

@@ -4,7 +4,7 @@ use crate::library;
 use crate::paper::{self, Answer, Operation, Paper, Way};
 use std::fmt;
 
-/// What the archive exports, with the causes that document 01 gives it (0: a result).
+/// What the archive exports, with the causes that the papers give it (0: a result).
 #[derive(Clone, Copy, PartialEq, Eq, Debug)]
 pub struct Function {
     pub name: &'static str,
@@ -24,7 +24,7 @@ pub const FUNCTIONS: [Function; 14] = [
     Function { name: "dzb_meet", causes: &[0, 2] },
     Function { name: "dzb_read", causes: &[0, 1, 2] },
     Function { name: "dzb_write", causes: &[0, 2, 3] },
-    Function { name: "dzb_list", causes: &[0, 2, 4, 6, 7, 8, 9, 10, 11] },
+    Function { name: "dzb_list", causes: &[0, 2, 4, 5, 6, 7, 8, 9, 10, 11] },
     Function { name: "dzb_line", causes: &[0, 1, 2, 4, 5, 6, 12] },
 ];
 

@@ -293,7 +293,7 @@ fn built(steps: usize, depth: usize, r: &mut Random) -> Vec<u8> {
             list.extend_from_slice(&constant(scale, r));
             waiting += 1;
         } else if waiting >= 2 && (must_fold || r.percent(50)) {
-            list.push(r.one_of(&[1, 2, 3, 3, 7, 8]));
+            list.push(r.one_of(&[1, 2, 3, 3, 7, 8, 9, 9]));
             waiting -= 1;
         } else {
             list.push(r.one_of(&[4, 5, 5, 6, 6]));
@@ -302,7 +302,7 @@ fn built(steps: usize, depth: usize, r: &mut Random) -> Vec<u8> {
     list
 }
 
-/// A list that leaves one value, with at most so many products.
+/// A list that leaves one value, with at most so many products and quotients.
 pub fn short_list(r: &mut Random, products: usize) -> Vec<u8> {
     let steps = 2 + r.index(12);
     let mut list = built(steps, 4, r);
@@ -311,8 +311,8 @@ pub fn short_list(r: &mut Random, products: usize) -> Vec<u8> {
     while at < list.len() {
         match list[at] {
             0 => at += 8,
-            3 if left == 0 => list[at] = 1,
-            3 => left -= 1,
+            3 | 9 if left == 0 => list[at] = 1,
+            3 | 9 => left -= 1,
             _ => {}
         }
         at += 1;
@@ -331,7 +331,7 @@ fn deep(r: &mut Random) -> Vec<u8> {
         if r.percent(20) {
             list.push(r.one_of(&[4, 5, 6]));
         }
-        list.push(r.one_of(&[1, 2, 3, 7, 8]));
+        list.push(r.one_of(&[1, 2, 3, 7, 8, 9]));
     }
     list
 }

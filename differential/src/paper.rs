@@ -165,7 +165,8 @@ impl Paper {
         self.in_range(way, result)
     }
 
-    /// "A list: for each step in turn 10, 6, 7, 2, 8, 9; at the end 11; only then 4, at the earliest step to which it applies."
+    /// "A list: for each step in turn 10, 6, 7, 2, 8, 9; at the end 11; only then 4, at the earliest step to which it applies.", and with 02,
+    /// Q-1, 5, "judged together with 4, after 11, the earliest step with either cause deciding".
     pub fn list(self, list: &[u8], way: Way) -> Answer {
         match steps_of(list) {
             Ok(steps) => self.evaluated(&steps, way),
@@ -309,6 +310,7 @@ fn steps_of(list: &[u8]) -> Result<Vec<Step>, (u32, u32)> {
             6 => Action::Operation(Operation::Dual),
             7 => Action::Operation(Operation::Join),
             8 => Action::Operation(Operation::Meet),
+            9 => Action::Operation(Operation::Quotient),
             _ => return Err((6, at)),
         };
         let takes = match action {

@@ -1,16 +1,20 @@
 -- Of what a function returns whose contract is that of the engine, and from its contract alone: its value, and the exchange of ends.
 use mathlib.Core.Path.{_≡_, refl, sym, ap, _∙_}
-use mathlib.Core.List.{List}
+use mathlib.Core.List.{List, []}
 use Prim.Native.Nat.{ℕ}
 use Rattle.directed.specs.declared.Interval.{Interval}
 use Rattle.directed.specs.declared.Rounding.{Rounding}
-use Rattle.directed.specs.Thousandths.{Pair, other-way}
+use Rattle.directed.specs.declared.Rounding.the-variants.{Outward, Inward}
+use Rattle.directed.specs.Exact.{_⊑_}
+use Rattle.directed.specs.Thousandths.{Pair, exact, other-way}
+use Rattle.directed.specs.Tightest.{Toward}
 use Rattle.directed.specs.Lift.{interval, pair-of}
 use Rattle.directed_laws.specs.Exchange.{turned}
 use Rattle.lists.specs.declared.ListAnswer.{ListAnswer}
 use Rattle.lists.specs.declared.ListAnswer.the-variants.{Value}
-use Rattle.lists.specs.Lists.{Result, value, refusal, outcome, built, answer}
+use Rattle.lists.specs.Lists.{Result, value, refusal, outcome, built, Expression, read, answer}
 use Rattle.lists.specs.Results.{value-refusal}
+use Rattle.lists.specs.ExactValue.{exact-value, Divisible}
 use Rattle.lists.specs.Containment.{Accepted, accepted}
 use Rattle.lists.specs.Exchange.{exchange, exchanged, answer-exchange}
 
@@ -35,3 +39,19 @@ module _ (v steps : ℕ) (w : Rounding) (s : List ℕ) (r : ListAnswer) (contrac
   -- what the exchanged list returns in the other way
   pub returned-exchange : (r′ : ListAnswer) → outcome r′ ≡ built (answer v steps (other-way w) (exchange s)) → outcome r′ ≡ turned-result (outcome r)
   returned-exchange r′ contract′ = contract′ ∙ ap built (answer-exchange v steps w s) ∙ built-exchange (answer v steps w s) ∙ ap turned-result (sym contract)
+
+-- "The containment rule for a list then speaks of lists whose exact evaluation meets no divisor that holds zero." (02, Q-1)
+module _ (v steps : ℕ) (s : List ℕ) (r : ListAnswer) (a : Interval) (is : r ≡ Value a) (t : Expression) (reads : read v steps 0 [] s ≡ value t) (divisible : Divisible t) where
+  sided : (w : Rounding) → outcome r ≡ built (answer v steps w s) → Toward w (exact-value t) (exact (pair-of a))
+  sided w contract =
+      let q = returned-accepted v steps w s r contract a is in
+      let e : q .expression ≡ t = cc (q .reads, reads) in
+      rw e at (q .side (rw e divisible))
+
+  -- "The outward value then contains the exact value of the list .."
+  pub outward-contains : outcome r ≡ built (answer v steps Outward s) → exact-value t ⊑ exact (pair-of a)
+  outward-contains contract = sided Outward contract
+
+  -- "the inward value lies in it."
+  pub inward-within : outcome r ≡ built (answer v steps Inward s) → exact (pair-of a) ⊑ exact-value t
+  inward-within contract = sided Inward contract

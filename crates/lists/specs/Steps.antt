@@ -1,4 +1,4 @@
--- Document 01, "Lists of steps": the step of each code, what it takes and leaves, and the bytes of a constant.
+-- Document 01, "Lists of steps", with 02, Q-1, "code 9 becomes quotient": the step of each code, what it takes and leaves, and the bytes of a constant.
 use mathlib.Core.Path.{_≡_, refl}
 use mathlib.Core.Bool.{Bool, false}
 use mathlib.Core.List.{List, [], _∷_, map}
@@ -7,7 +7,7 @@ use lib.ListN.{getD}
 use mir.Syntax.{w32}
 use mir.Val.{toZ}
 use Rattle.directed.specs.declared.Unary.the-variants.{Negation, Opposite, Dual}
-use Rattle.directed.specs.declared.Binary.the-variants.{Sum, Difference, Product, Join, Meet}
+use Rattle.directed.specs.declared.Binary.the-variants.{Sum, Difference, Product, Quotient, Join, Meet}
 use Rattle.directed.specs.Thousandths.{Pair, pair, beyond-range}
 use Rattle.lists.specs.declared.Step.{Step}
 use Rattle.lists.specs.declared.Step.the-variants.{Constant, One, Two}
@@ -16,7 +16,7 @@ use Rattle.lists.specs.declared.Code.the-variants.{Known, Unknown}
 
 -- the table's second column, from code 0 on
 abbrev pub codes : List Step
-codes = Constant ∷ Two Sum ∷ Two Difference ∷ Two Product ∷ One Negation ∷ One Opposite ∷ One Dual ∷ Two Join ∷ Two Meet ∷ []
+codes = Constant ∷ Two Sum ∷ Two Difference ∷ Two Product ∷ One Negation ∷ One Opposite ∷ One Dual ∷ Two Join ∷ Two Meet ∷ Two Quotient ∷ []
 
 -- a code behind the table's end is unknown
 unfoldable pub code-of : ℕ → Code
@@ -31,10 +31,10 @@ takes (Two g) = 2
 abbrev pub leaves : Step → ℕ
 leaves s = 1
 
--- the table's third and fourth column, as 01 prints them
+-- the table's third and fourth column, as 01 prints them, and Q-1's row: "takes 2, leaves 1"
 pub table :
-    (map takes codes ≡ 0 ∷ 2 ∷ 2 ∷ 2 ∷ 1 ∷ 1 ∷ 1 ∷ 2 ∷ 2 ∷ [])
-    × (map leaves codes ≡ 1 ∷ 1 ∷ 1 ∷ 1 ∷ 1 ∷ 1 ∷ 1 ∷ 1 ∷ 1 ∷ [])
+    (map takes codes ≡ 0 ∷ 2 ∷ 2 ∷ 2 ∷ 1 ∷ 1 ∷ 1 ∷ 2 ∷ 2 ∷ 2 ∷ [])
+    × (map leaves codes ≡ 1 ∷ 1 ∷ 1 ∷ 1 ∷ 1 ∷ 1 ∷ 1 ∷ 1 ∷ 1 ∷ 1 ∷ [])
 table = (refl, refl)
 
 -- "constant: 8 bytes follow"

@@ -8,9 +8,9 @@ use Rattle.integers.specs.Floor.{floor, floor-nat, ceiling}
 use Rattle.directed.specs.declared.Rounding.{Rounding}
 use Rattle.directed.specs.declared.Rounding.the-variants.{Outward, Inward}
 use Rattle.directed.specs.declared.Binary.{Binary}
-use Rattle.directed.specs.declared.Binary.the-variants.{Difference, Product, Quotient}
+use Rattle.directed.specs.declared.Binary.the-variants.{Sum, Difference, Product, Quotient}
 use Rattle.directed.specs.Fraction.{_+ᶠ_, _-ᶠ_, _*ᶠ_, over}
-use Rattle.directed.specs.Exact.{sort, direction, smaller, larger}
+use Rattle.directed.specs.Exact.{⁺, zero-free, holds-zero, sort, direction, smaller, larger}
 use Rattle.directed.specs.Operations as operations
 use Rattle.directed.specs.Operations.{none-free}
 use Rattle.directed.specs.Thousandths as thousandths
@@ -20,7 +20,8 @@ use Rattle.directed.specs.Answer as answers
 use Rattle.directed.specs.Answer.{Outcome, binary, unjudged-unary, unjudged-binary, given, stop, divisor, in-range}
 use Rattle.directed.specs.Equation.{unjudged-equation, equation}
 use Rattle.lists.specs.Steps.{code-of, constant-in}
-use Rattle.lists.specs.Lists.{Result, value, refusal, judgement, admitted, read, evaluated, answer}
+use Rattle.lists.specs.Lists.{Result, value, refusal, judgement, admitted, Expression, constant, two, read, evaluated, answer}
+use Rattle.lists.specs.ExactValue.{exact-value}
 
 infix 8 +_ -_
 abbrev +_ : ℕ → ℤ
@@ -86,3 +87,34 @@ pub wanted-only :
     × (listed Inward wide-product-dual ≡ refusal 4 2)
 unfolding code-of constant-in judgement admitted read evaluated answer unjudged-unary unjudged-binary thousandths.unary stop in-range none-free operations.product operations.binary sort direction smaller larger outside beyond-range round-down round-up floor floor-nat ceiling _*ᶠ_
 wanted-only = (refl, refl)
+
+-- 02, Q-1: "A list whose rounded divisor holds zero is refused although the exact one may not." and the other way about. In thousandths: 1000, 1, 1,
+-- product, quotient, whose exact divisor is 1/1000 and rounded outward [0, 1]; and 1000, 500, 1, product, −500, 1, product, sum, [0, 3], sum,
+-- quotient, whose exact divisor is [0, 3] and rounded inward [1, 2].
+abbrev step-of : ℕ → ℕ → ℕ → ℕ → List ℕ
+step-of a b c d = 0 ∷ a ∷ b ∷ c ∷ d ∷ a ∷ b ∷ c ∷ d ∷ []
+
+abbrev fine-divisor : List ℕ
+fine-divisor = step-of 232 3 0 0 ++ (step-of 1 0 0 0 ++ (step-of 1 0 0 0 ++ (3 ∷ 9 ∷ [])))
+
+abbrev coarse-divisor : List ℕ
+coarse-divisor = step-of 232 3 0 0 ++ (step-of 244 1 0 0 ++ (step-of 1 0 0 0 ++ (3 ∷ (step-of 12 254 255 255 ++ (step-of 1 0 0 0 ++ (3 ∷ 1 ∷ 0 ∷ 0 ∷ 0 ∷ 0 ∷ 0 ∷ 3 ∷ 0 ∷ 0 ∷ 0 ∷ 1 ∷ 9 ∷ []))))))
+
+abbrev same : ℕ → ℤ → Expression
+same k z = constant k (pair z z)
+
+abbrev fine : Expression
+fine = two 3 Product (same 1 (+ 1)) (same 2 (+ 1))
+
+abbrev coarse : Expression
+coarse = two 9 Sum (two 7 Sum (two 3 Product (same 1 (+ 500)) (same 2 (+ 1))) (two 6 Product (same 4 (- 500)) (same 5 (+ 1)))) (constant 8 (pair (+ 0) (+ 3)))
+
+pub rounded-divisor :
+    (read 16 64 0 [] fine-divisor ≡ value (two 4 Quotient (same 0 (+ 1000)) fine))
+    × (sort (exact-value fine) ≡ zero-free ⁺)
+    × (listed Outward fine-divisor ≡ refusal 5 4)
+    × (read 16 64 0 [] coarse-divisor ≡ value (two 10 Quotient (same 0 (+ 1000)) coarse))
+    × (sort (exact-value coarse) ≡ holds-zero ⁺)
+    × (listed Inward coarse-divisor ≡ value ⟨ + 500000 ⋯ + 1000000 ⟩)
+unfolding code-of constant-in judgement admitted read evaluated answer exact-value unjudged-unary unjudged-binary thousandths.unary stop divisor in-range none-free operations.product operations.binary sort direction smaller larger outside beyond-range round-down round-up floor floor-nat ceiling _+ᶠ_ _*ᶠ_ over
+rounded-divisor = (refl, refl, refl, refl, refl, refl)

@@ -17,14 +17,14 @@ unknown-code : (n : ℕ) → length codes ≤ n → Unknown ≡ code-of n
 unfolding code-of
 unknown-code n h = sym (List·getD-eq-default (map Known codes) Unknown h)
 
-returns-10 : tie.Need-returns-10
-returns-10 c =
+returns-11 : tie.Need-returns-11
+returns-11 c =
     let n = c .before .args .byte in
-    unknown-code n (past 8 n (past 7 n (past 6 n (past 5 n (past 4 n (past 3 n (past 2 n (past 1 n (past 0 n (λ a. omega arith))))))))) (c .match .rest))
+    unknown-code n (past 9 n (past 8 n (past 7 n (past 6 n (past 5 n (past 4 n (past 3 n (past 2 n (past 1 n (past 0 n (λ a. omega arith)))))))))) (c .match .rest))
 
 pub code-of-spec : {M : Type 1} → statement M
 unfolding code-of
 code-of-spec =
     tie.close
     (tie.spec (λ c. rw (c .match .keys1)) (λ c. rw (c .match .keys2)) (λ c. rw (c .match .keys3)) (λ c. rw (c .match .keys4)) (λ c. rw (c .match .keys5))
-    (λ c. rw (c .match .keys6)) (λ c. rw (c .match .keys7)) (λ c. rw (c .match .keys8)) (λ c. rw (c .match .keys9)) returns-10)
+    (λ c. rw (c .match .keys6)) (λ c. rw (c .match .keys7)) (λ c. rw (c .match .keys8)) (λ c. rw (c .match .keys9)) (λ c. rw (c .match .keys10)) returns-11)
