@@ -222,7 +222,7 @@ fn give_list(answer: ListAnswer, result: &mut [i32; 2]) -> u32
     }
 }
 
-// Causes 10, 6, 7, 2, 8, 9, then 11, then 4, each with its step.
+// Causes 10, 6, 7, 2, 8, 9, then 11, then 5 and 4, each with its step.
 #[no_mangle]
 pub extern "C" fn dzb_list(bytes: &[u8], inward: bool, result: &mut [i32; 2]) -> u32
     ensures { λ r. ⌜ effect r (now (result .exit)) ≡ effect-of (list.answer 16 64 (way inward) (now (bytes .entry))) (now (result .entry)) ⌝ }

@@ -1,4 +1,4 @@
--- Document 01, "Lists of steps" and "Table of causes": what a list answers. The bytes are read into one expression, or refused; the
+-- Document 01, "Lists of steps" and "Table of causes", with 02, Q-1: what a list answers. The bytes are read into one expression, or refused; the
 -- expression then has a value in each way, or is refused.
 use mathlib.Core.List.{List, [], _∷_}
 use Prim.Native.Nat.{ℕ, zero, suc, _+_, _-_}
@@ -96,12 +96,14 @@ read values (suc left) k ts (byte ∷ rest) =
     after (at k (admitted values (length ts) (code-of byte) rest))
     λ step. read values left (suc k) (stepped k step rest ts) (drop (follows step) rest)
 
--- ---- the value of an expression: "Cause 4 is judged on each step's value in the way it is wanted"
+-- ---- the value of an expression: "Cause 4 is judged on each step's value in the way it is wanted"; 02, Q-1: "The divisor is looked at in the way its
+-- step is wanted."
 unfoldable pub evaluated : Rounding → Expression → Result Pair
 evaluated w (constant k p) = value p
 evaluated w (one k f a) = after (evaluated (under f w) a) λ x. at k (unjudged-unary f x)
 evaluated w (two k g a b) = after (evaluated w a) λ x. after (evaluated w b) λ y. at k (unjudged-binary w g x y)
 
--- ---- the answer: "at the end 11; only then 4", where at most `values` values wait at once, and the list has at most `steps` steps
+-- ---- the answer: "at the end 11; only then 4"; 02, Q-1: 5 "is judged together with 4, after 11, the earliest step with either cause deciding". At most
+-- `values` values wait at once, and the list has at most `steps` steps
 unfoldable pub answer : ℕ → ℕ → Rounding → List ℕ → Result Pair
 answer values steps w s = after (read values steps 0 [] s) (evaluated w)

@@ -110,7 +110,7 @@ blame-number (in-second e b) = blame-number b
 pub data Refusal (v steps : ℕ) (w : Rounding) (s : List ℕ) : ℕ → ℕ → Type 0 where
   -- 10, 6, 7, 2, 8, 9 at a step, or 11 at the end
   reading : {n k : ℕ} → Ending v steps s (refusal n k) → Refusal v steps w s n k
-  -- only then 4, and 5
+  -- only then 5 or 4, at the earliest step that has one of them
   evaluating : {n k : ℕ} {t : Expression} → Ending v steps s (value t) → Blame w t n k → Refusal v steps w s n k
 
 pub refusal-exactly : (v steps : ℕ) (w : Rounding) (s : List ℕ) (n k : ℕ) → (answer v steps w s ≡ refusal n k) ↔ Refusal v steps w s n k
