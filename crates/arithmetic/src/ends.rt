@@ -8,7 +8,6 @@ ghost use Rattle.arithmetic.specs.Ends as meaning;
 ghost use Rattle.integers.specs.Sizes.{difference-bound, product-bound};
 use directed::Answer;
 use directed::Cause;
-use directed::Interval;
 use directed::Rounding;
 
 pub fn wide(a: i32) -> i64
@@ -56,13 +55,7 @@ pub fn extreme(larger: bool, x: i64, y: i64) -> i64
 pub fn in_range(lower: i64, upper: i64) -> Answer
     ensures { λ r. ⌜ outcome r ≡ built (in-range (pair lower upper)) ⌝ }
 {
-    if Interval::is_outside(lower) {
-        return Answer::Refused(Cause::ResultBeyondRange);
-    }
-    if Interval::is_outside(upper) {
-        return Answer::Refused(Cause::ResultBeyondRange);
-    }
-    Answer::Value(Interval::new(lower as i32, upper as i32))
+    Answer::within_range(lower, upper, Cause::ResultBeyondRange)
 }
 
 pub fn lower_up(rounding: Rounding) -> bool

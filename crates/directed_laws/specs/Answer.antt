@@ -8,7 +8,7 @@ use Prim.Native.Nat.{ℕ, _-_}
 use native.Mathlib.Omega.{arith}
 use lib.Dec.{eqb}
 use lib.ListN.{getD}
-use Rattle.directed.specs.Answer.{number, Outcome, outcome, built, Judgement, sound, cause, unless, given, in-range, value, refusal}
+use Rattle.directed.specs.Answer.{number, Outcome, outcome, built, Judgement, sound, cause, unless, given, within-range, in-range, value, refusal}
 use Rattle.directed.specs.Exact.{Exact}
 use Rattle.directed.specs.Lift.{interval, faulty}
 use Rattle.directed.specs.Thousandths.{Pair, beyond-range, rounded}
@@ -118,7 +118,7 @@ module _ (rounding : Rounding) (operands : List Interval) (stop : Judgement) (x 
   }
 
   is-computed : given operands ≡ sound → stop ≡ sound → Answered (built (in-range (rounded rounding x)))
-  unfolding Answered in-range
+  unfolding Answered within-range
   is-computed g s = go (beyond-range (rounded rounding x)) refl
     where
       go : (k : Bool) → beyond-range (rounded rounding x) ≡ k → Exactly rounding operands stop x (built (cond k (refusal 4) (value (rounded rounding x))))
@@ -154,7 +154,7 @@ pub record Made (rounding : Rounding) (stop : Judgement) (x : Exact) (p : Pair) 
   pub inside : beyond-range p ≡ false
 
 pub made : (rounding : Rounding) (stop : Judgement) (x : Exact) (p : Pair) → unless stop (in-range (rounded rounding x)) ≡ value p → Made rounding stop x p
-unfolding in-range
+unfolding within-range
 made rounding (cause n) x p e = absurd (refusal-value e)
 made rounding sound x p e = go (beyond-range (rounded rounding x)) refl e
   where

@@ -2,7 +2,7 @@
 use mathlib.Core.Bool.{Bool, true, false, _&&_, cond, and-comm}
 use mathlib.Core.List.{List, [], _∷_, map}
 use mathlib.Core.Path.{_≡_, _∙_, sym, refl, ap}
-use Rattle.directed.specs.Answer.{Outcome, outcome, built, Judgement, sound, cause, unless, given, divisor, stop, in-range, unjudged-unary, unjudged-binary, unary, binary, value, refusal}
+use Rattle.directed.specs.Answer.{Outcome, outcome, built, Judgement, sound, cause, unless, given, divisor, stop, within-range, in-range, unjudged-unary, unjudged-binary, unary, binary, value, refusal}
 use Rattle.directed.specs.Exact.{Exact, Sign, _!_, direction, zero-free, holds-zero, sort, _≋_, ⁺, ⁻}
 use Rattle.directed.specs.Fraction.{above-0, below-0}
 use Rattle.directed.specs.Lift.{interval, pair-of, faulty}
@@ -34,7 +34,7 @@ rounded-dual Outward x = refl
 rounded-dual Inward x = refl
 
 in-range-dual : (a : Pair) → in-range (thousandths.dual a) ≡ exchanged (in-range a)
-unfolding in-range
+unfolding within-range
 in-range-dual a = rw (dual-range a) (go (beyond-range a))
   where
     go : (k : Bool) → cond k (refusal 4) (value (thousandths.dual a)) ≡ exchanged (cond k (refusal 4) (value a))

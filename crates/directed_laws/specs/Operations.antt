@@ -3,7 +3,7 @@ use mathlib.Core.Bool.{false}
 use mathlib.Core.List.{List, [], _∷_}
 use mathlib.Core.Path.{_≡_, _∙_, refl, ap}
 use Prim.Native.Nat.{ℕ}
-use Rattle.directed.specs.Answer.{Outcome, outcome, built, Judgement, sound, cause, divisor, stop, in-range, unjudged-unary, unjudged-binary, unary, binary, value}
+use Rattle.directed.specs.Answer.{Outcome, outcome, built, Judgement, sound, cause, divisor, stop, within-range, in-range, unjudged-unary, unjudged-binary, unary, binary, value}
 use Rattle.directed.specs.Exact.{Exact, Sort, sort, zero-free, holds-zero}
 use Rattle.directed.specs.Lift.{pair-of}
 use Rattle.directed.specs.Operations as operations
@@ -72,7 +72,7 @@ binary-made rounding op a b p e = made rounding _ _ p e
 
 -- ---- "These never round and never leave the range."
 in-range-kept : (p : Pair) → beyond-range p ≡ false → in-range p ≡ value p
-unfolding in-range
+unfolding within-range
 in-range-kept p h = rw h refl
 
 pub unary-kept : (op : Unary) (a : Pair) → beyond-range a ≡ false → unjudged-unary op a ≡ value (thousandths.unary op a)

@@ -13,7 +13,7 @@ use Rattle.directed.specs.Operations as operations
 use Rattle.directed.specs.Thousandths as thousandths
 use Rattle.directed.specs.Thousandths.{Pair, exact, beyond-range, rounded, under}
 use Rattle.directed.specs.Answer as answers
-use Rattle.directed.specs.Answer.{Outcome, Judgement, sound, cause, unless, stop, in-range, unjudged-unary, unjudged-binary}
+use Rattle.directed.specs.Answer.{Outcome, Judgement, sound, cause, unless, stop, within-range, in-range, unjudged-unary, unjudged-binary}
 use Rattle.directed_laws.specs.Answer.{refusal-value}
 use Rattle.directed_laws.specs.Operations.{stop-5}
 use Rattle.lists.specs.Lists.{Result, value, refusal, at, after, Expression, constant, one, two, read, evaluated, answer}
@@ -37,7 +37,7 @@ pub data Blame : Rounding → Expression → ℕ → ℕ → Type 0 where
   in-second : {w : Rounding} {j k n : ℕ} {g : Binary} {a b : Expression} {x : Pair} → evaluated w a ≡ value x → Blame w b n k → Blame w (two j g a b) n k
 
 blame-is : {w : Rounding} {t : Expression} {n k : ℕ} → Blame w t n k → evaluated w t ≡ refusal n k
-unfolding evaluated unjudged-unary unjudged-binary in-range
+unfolding evaluated unjudged-unary unjudged-binary within-range
 blame-is (zero-divisor e i h) = rw (e, i, h)
 blame-is (beyond-one e h) = rw (e, h)
 blame-is (beyond-two e i h l) = rw (e, i, h, l)
@@ -47,7 +47,7 @@ blame-is (in-second e b) = rw (e, blame-is b)
 
 -- ---- what refuses a step is what stops its operation, 5, or its result, 4
 in-range-4 : {n : ℕ} (p : Pair) → in-range p ≡ answers.refusal n → (4 ≡ n) × (beyond-range p ≡ true)
-unfolding in-range
+unfolding within-range
 in-range-4 {n} p e = go (beyond-range p) e
   where
     go : (b : Bool) → cond b (answers.refusal 4) (answers.value p) ≡ answers.refusal n → (4 ≡ n) × (b ≡ true)

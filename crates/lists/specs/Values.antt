@@ -13,7 +13,7 @@ use Rattle.directed.specs.Operations as operations
 use Rattle.directed.specs.Thousandths.{Pair, exact, beyond-range, rounded, under}
 use Rattle.directed.specs.Tightest.{Tightest}
 use Rattle.directed.specs.Answer as answers
-use Rattle.directed.specs.Answer.{sound, stop, in-range, unjudged-unary, unjudged-binary}
+use Rattle.directed.specs.Answer.{sound, stop, within-range, in-range, unjudged-unary, unjudged-binary}
 use Rattle.directed_laws.specs.Fraction.{≈-refl}
 use Rattle.directed_laws.specs.Rounding.{rounded-tightest, tightest-unique}
 use Rattle.directed_laws.specs.Thousandths.{unary-rounded}
@@ -45,7 +45,7 @@ valued w (two k g a b) {p} e =
     of-two (valued w a (c .got)) (valued w b (d .got)) (m .unstopped) (m .tightest) (m .inside)
 
 tightest-value : (w : Rounding) (x : Exact) {p : Pair} → Tightest w x p → beyond-range p ≡ false → in-range (rounded w x) ≡ answers.value p
-unfolding in-range
+unfolding within-range
 tightest-value w x t h = rw (tightest-unique w {x = x} {y = x} (λ i. ≈-refl _) (rounded-tightest w x) t, h)
 
 valued-back : {w : Rounding} {t : Expression} {p : Pair} → Valued w t p → evaluated w t ≡ value p

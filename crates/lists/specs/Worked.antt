@@ -17,7 +17,7 @@ use Rattle.directed.specs.Thousandths as thousandths
 use Rattle.directed.specs.Thousandths.{Pair, pair, dual, outside, beyond-range, round-down, round-up}
 use Rattle.directed.specs.Lift.{interval, faulty}
 use Rattle.directed.specs.Answer as answers
-use Rattle.directed.specs.Answer.{Outcome, binary, unjudged-unary, unjudged-binary, given, stop, divisor, in-range}
+use Rattle.directed.specs.Answer.{Outcome, binary, unjudged-unary, unjudged-binary, given, stop, divisor, within-range}
 use Rattle.directed.specs.Equation.{unjudged-equation, equation}
 use Rattle.lists.specs.Steps.{code-of, constant-in}
 use Rattle.lists.specs.Lists.{Result, value, refusal, judgement, admitted, Expression, constant, two, read, evaluated, answer}
@@ -74,7 +74,7 @@ pub worked :
     -- Steps 1.001, 1.001, product, dual, outward: [1.002,1.003]; inward then [1.003,1.002]
     × (listed Outward (step-1·001 ++ (step-1·001 ++ (3 ∷ 6 ∷ []))) ≡ value ⟨ + 1002 ⋯ + 1003 ⟩)
     × (listed Inward (step-1·001 ++ (step-1·001 ++ (3 ∷ 6 ∷ []))) ≡ value ⟨ + 1003 ⋯ + 1002 ⟩)
-unfolding code-of constant-in judgement admitted read evaluated answer binary equation unjudged-unary unjudged-binary unjudged-equation thousandths.unary given faulty stop divisor in-range none-free operations.product operations.binary sort direction smaller larger outside beyond-range round-down round-up floor floor-nat ceiling _+ᶠ_ _-ᶠ_ _*ᶠ_ over
+unfolding code-of constant-in judgement admitted read evaluated answer binary equation unjudged-unary unjudged-binary unjudged-equation thousandths.unary given faulty stop divisor within-range none-free operations.product operations.binary sort direction smaller larger outside beyond-range round-down round-up floor floor-nat ceiling _+ᶠ_ _-ᶠ_ _*ᶠ_ over
 worked = (refl, refl, (refl, refl), (refl, refl), (refl, refl), (refl, refl), refl, refl, refl, (refl, refl), (refl, refl), (refl, refl), refl, refl)
 
 -- [0,1.001] times [0,1998001.999] is [0,2000000.000999]: outward its upper end leaves the range, inward it does not
@@ -85,7 +85,7 @@ wide-product-dual = 0 ∷ 0 ∷ 0 ∷ 0 ∷ 0 ∷ 233 ∷ 3 ∷ 0 ∷ 0 ∷ 0 �
 pub wanted-only :
     (listed Outward wide-product-dual ≡ value ⟨ + 2000000000 ⋯ + 0 ⟩)
     × (listed Inward wide-product-dual ≡ refusal 4 2)
-unfolding code-of constant-in judgement admitted read evaluated answer unjudged-unary unjudged-binary thousandths.unary stop in-range none-free operations.product operations.binary sort direction smaller larger outside beyond-range round-down round-up floor floor-nat ceiling _*ᶠ_
+unfolding code-of constant-in judgement admitted read evaluated answer unjudged-unary unjudged-binary thousandths.unary stop within-range none-free operations.product operations.binary sort direction smaller larger outside beyond-range round-down round-up floor floor-nat ceiling _*ᶠ_
 wanted-only = (refl, refl)
 
 -- 02, Q-1: "A list whose rounded divisor holds zero is refused although the exact one may not." and the other way about. In thousandths: 1000, 1, 1,
@@ -116,5 +116,5 @@ pub rounded-divisor :
     × (read 16 64 0 [] coarse-divisor ≡ value (two 10 Quotient (same 0 (+ 1000)) coarse))
     × (sort (exact-value coarse) ≡ holds-zero ⁺)
     × (listed Inward coarse-divisor ≡ value ⟨ + 500000 ⋯ + 1000000 ⟩)
-unfolding code-of constant-in judgement admitted read evaluated answer exact-value unjudged-unary unjudged-binary thousandths.unary stop divisor in-range none-free operations.product operations.binary sort direction smaller larger outside beyond-range round-down round-up floor floor-nat ceiling _+ᶠ_ _*ᶠ_ over
+unfolding code-of constant-in judgement admitted read evaluated answer exact-value unjudged-unary unjudged-binary thousandths.unary stop divisor within-range none-free operations.product operations.binary sort direction smaller larger outside beyond-range round-down round-up floor floor-nat ceiling _+ᶠ_ _*ᶠ_ over
 rounded-divisor = (refl, refl, refl, refl, refl, refl)
