@@ -1,5 +1,5 @@
-// The same job in plain, careful Rust: an independent reading of document 01, standard library only. It is the benchmark's yardstick and no
-// part of the product.
+// The slip's job in plain, careful Rust: an independent reading of document 01 with Q-2's form of an end, standard library only. It is one of
+// the benchmark's yardsticks and no part of the product.
 use std::io::{self, BufRead, BufReader, BufWriter, Write};
 
 const LEAST: i64 = -2_000_000_000;
@@ -33,17 +33,25 @@ fn read_end(text: &[u8]) -> Option<(i64, &[u8])> {
     if count == 0 || (count > 1 && text[0] == b'0') {
         return None;
     }
-    let text = &text[count..];
-    if text.len() < 4 || text[0] != b'.' || !text[1..4].iter().all(u8::is_ascii_digit) {
-        return None;
+    let mut text = &text[count..];
+    let mut places = 0;
+    if let Some((b'.', part)) = text.split_first() {
+        while places < 3 && places < part.len() && part[places].is_ascii_digit() {
+            value = value * 10 + (part[places] - b'0') as i64;
+            places += 1;
+        }
+        if places == 0 {
+            return None;
+        }
+        text = &part[places..];
     }
-    for b in &text[1..4] {
-        value = value * 10 + (b - b'0') as i64;
+    for _ in places..3 {
+        value *= 10;
     }
     if minus && value == 0 {
         return None;
     }
-    Some((if minus { -value } else { value }, &text[4..]))
+    Some((if minus { -value } else { value }, text))
 }
 
 fn read_form(text: &[u8]) -> Option<Pair> {

@@ -89,7 +89,8 @@ uint32_t dzb_equation(int32_t a_lower, int32_t a_upper, int32_t c_lower, int32_t
 /* ---- text */
 
 /* The pair whose text the `length` bytes at `text` are, no byte more or less (there is no byte 0 at the end): both ends of `result` are
- * written. Refused, with nothing written: 1, then 2. */
+ * written. An end may have three, two, one or no digits behind its point, and then no point: [1.5,2] is [1.500,2.000]. Refused, with nothing
+ * written: 1, then 2. */
 uint32_t dzb_read(const uint8_t *text, size_t length, dzb_pair result);
 
 /* The text of a pair: the front of `buffer` is filled with it, and `written` gets its length, at most 27; the bytes behind the text stay as

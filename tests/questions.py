@@ -1,4 +1,5 @@
 """The questions of the two programs that are run and compared: QUESTIONS for crates/library_test, SLIP for crates/slip."""
+import itertools
 import struct
 
 import reference
@@ -157,11 +158,23 @@ READ_IN_FORM = [
 READ_MALFORMED = [
     b'[0.000,-10000000.000]', b'[9999999.000,x]', b'[-0.000,0.000]', b'[0.000,-0.000]', b'[00.500,0.000]',
     b'[0.000,00.000]', b'[0000000.000,0.000]', b'[.500,0.000]', b'[0.000,.500]', b'[+1.000,0.000]', b'[--1.000,0.000]',
-    b'[1.00,0.000]', b'[1.0000,0.000]', b'[1.5,2]', b'[1,000.000]', b'', b'[', b'[]', b'[-,-]', b'[0.000,0.000', b'0.000,0.000]',
+    b'[1.,0.000]', b'[1.0000,0.000]', b'[1,000.000]', b'', b'[', b'[]', b'[-,-]', b'[0.000,0.000', b'0.000,0.000]',
     b'(0.000,0.000)', b'[0.000;0.000]', b'[0.000,0.000,0.000]', b'[0.000,0.000]]', b'[0.000,0.000] ', b' [0.000,0.000]',
     b'[0.000, 0.000]', b'[0.000,0.000]\r', b'[0.000,0.00:]', b'[0.000,0.0/0]',
     b'[0.000,12345678901234567890.000]',
 ]
+
+# 02, Q-2: no point, or a point with one to three digits. The first six read as the same pair; then the edges, and 2 behind the wider form.
+READ_SHORT = [
+    b'[1.500,2.000]', b'[1.50,2.00]', b'[1.5,2.0]', b'[1.5,2]', b'[1.50,2]', b'[1.500,2.0]', b'[0,0]', b'[-1,1]', b'[-0.5,-0.05]', b'[9999999,0]',
+    b'[2000000,-2000000]', b'[2000000.001,0]', b'[2000000.01,0]', b'[2000001,0]', b'[0,-9999999.9]', b'[10000000,0]', b'[1.,0]', b'[.5,0]', b'[1.2345,0]',
+    b'[00,0]', b'[01.5,0]', b'[-0,0]', b'[-0.0,0]', b'[-0.00,0]', b'[-0.000,0]', b'[+1,0]', b'[-,0]', b'[1,0', b'[,]', b'[1.5.0,0]', b'[1.5-,0]',
+]
+# Every text of up to 4 bytes over this alphabet, as a lower end. Ends with no sign: 3 + 6 + 18 + 54 with no point, 9 + 27 + 18 with one; with
+# a sign, of one byte less and not zero: 3 + 6 + 18 - 1 and 9 - 1.
+ALPHABET = [b'-', b'0', b'1', b'.', b'9']
+SHORT_ENDS = [b''.join(bytes_) for length in range(5) for bytes_ in itertools.product(ALPHABET, repeat=length)]
+ENDS_AMONG_THEM = 81 + 54 + 26 + 8
 
 # Where a digit more is wanted, from both sides; signs; the ends of the range and beyond.
 SIZES = [10**k for k in range(3, 10)] + [GREATEST]
@@ -177,6 +190,10 @@ def texts():
     yield from (b'read ' + text for text in READ_IN_FORM)
     yield b'# Texts not in form'
     yield from (b'read ' + text for text in READ_MALFORMED)
+    yield b'# Q-2: shorter figures'
+    yield from (b'read ' + text for text in READ_SHORT)
+    yield b'# Q-2: %d texts, %d of them ends' % (len(SHORT_ENDS), ENDS_AMONG_THEM)
+    yield from (b'read [' + end + b',0]' for end in SHORT_ENDS)
     yield b'# Pairs written, and read back'
     for pair in WRITTEN:
         yield b'write 28 %d %d' % pair
@@ -308,7 +325,7 @@ QUESTIONS = b''.join(line + b'\n' for part in (papers(), OPERATIONS.encode().spl
 P = b'[1.000,2.000]'
 PAD = b' '.join([b'O', b'E', b'[-1000000.001,-1000000.001]', b'[-1000000.001,-1000000.001]', b'[-1000000.001,-1000000.001]'])
 NO_TEXTS = [
-    b'[-0.000,0.000]', b'[00.500,0.000]', b'[.500,0.000]', b'[+1.000,0.000]', b'[1.00,0.000]', b'[1.0000,0.000]', b'[1,0.000]', b'1.000,2.000',
+    b'[-0.000,0.000]', b'[00.500,0.000]', b'[.500,0.000]', b'[+1.000,0.000]', b'[1.,0.000]', b'[1.0000,0.000]', b'[-0,0.000]', b'[-0.0,1]', b'1.000,2.000',
     b'[1.000;2.000]', b'[1.000,2.000', b'[1.000,2.000]]', b'[1.000,2.000]\r', b'[1.000,2.000]\x00', b'[--1.000,2.000]', b'[1.000,]', b'[,]', b'[]',
     b'[', b']', b'(1.000,2.000)', b'[1.000,2.000,3.000]', b'[01.000,2.000]', b'[1.0a0,2.000]', b'[1e3.000,2.000]', b'\xff',
 ]
@@ -326,6 +343,9 @@ LINES = [
     b'O D [-1.000,-1.000] [3.000,3.000]', b'I D [-1.000,-1.000] [3.000,3.000]', b'O D [1.000,2.000] [1.000,2.000]',
     b'O E [0.000,0.000] [2.000,4.000] [6.000,8.000]', b'O E [0.000,0.000] [2.000,4.000] [-4.000,8.000]',
     b'O E [5.100,3.000] [-7.200,-11.500] [1.000,2.000]', b'I E [5.100,3.000] [-7.200,-11.500] [1.000,2.000]',
+    # Q-2: shorter figures; the shortest line of an operation; 2 behind the wider form
+    b'O A [1.5,2] [0,0]', b'O A [1.50,2.0] [0.0,0.000]', b'O A [0,0] [0,0]', b'O E [0.5,0.6] [2,4] [6.5,20.6]', b'I D [-1,-1] [3,3]', b'O A [2000001,0] [0,0]',
+    b'O A [0,0] [0,0] ', b'O A [0,0]  [0,0]', b'O A [0,0][0,0]', b'O A [1.5,2]', b'O E [0,0] [1,1] [-0.5,x]',
     # the longest texts, and the edge of the range
     b'O A [-2000000.000,-2000000.000] [0.000,0.000]', b'O A [2000000.000,-2000000.000] [0.000,0.000]',
     PAD,

@@ -210,12 +210,13 @@ def evaluate(way, data, values=VALUES, steps=STEPS):
 
 # ---- "Text and lines"
 
-END = rb'(-?)(0|[1-9][0-9]{0,6})\.([0-9]{3})'
+# Document 02, Q-2: "Reading an end now allows no point at all, or a point with one to three digits; missing digits are zeros."
+END = rb'(-?)(0|[1-9][0-9]{0,6})(?:\.([0-9]{1,3}))?'
 TEXT = re.compile(rb'\[' + END + rb',' + END + rb'\]')
 
 
 def end_of(minus, whole, part):
-    size = 1000 * int(whole) + int(part)
+    size = 1000 * int(whole) + int((part or b'').ljust(3, b'0'))
     refuse(1, minus and size == 0)
     return -size if minus else size
 

@@ -1,7 +1,7 @@
 //! Inputs: random, at boundaries, improper, damaged.
 
 use crate::case::{Case, OPERATIONS};
-use crate::paper::{text_of, Operation, Way};
+use crate::paper::{end_text, text_of, Operation, Way};
 use crate::random::Random;
 
 const RANGE: i64 = 2_000_000_000;
@@ -176,8 +176,22 @@ fn text_end(r: &mut Random) -> i64 {
     }
 }
 
+/// One of the texts that read as an end: zeros at the end of its fraction, and then the point, may be left out.
+fn spelled(end: i64, r: &mut Random) -> String {
+    let mut text = end_text(end);
+    while r.percent(70) && text.contains('.') && text.ends_with(['0', '.']) {
+        text.pop();
+    }
+    if text.ends_with('.') {
+        text.pop();
+    }
+    text
+}
+
 fn valid_text(r: &mut Random) -> Vec<u8> {
-    text_of((text_end(r), text_end(r))).into_bytes()
+    let round = r.one_of(&[1, 1, 10, 100, 1000]);
+    let (lower, upper) = (text_end(r) / round * round, text_end(r) / round * round);
+    format!("[{},{}]", spelled(lower, r), spelled(upper, r)).into_bytes()
 }
 
 /// An end that is nearly in form.
@@ -396,7 +410,7 @@ fn valid_line(r: &mut Random) -> Vec<u8> {
     let mut line = format!("{} {letter}", if r.percent(50) { "O" } else { "I" });
     for q in p.iter().take(operation.pairs()) {
         line.push(' ');
-        line.push_str(&text_of(*q));
+        line.push_str(&format!("[{},{}]", spelled(q.0, r), spelled(q.1, r)));
     }
     line.into_bytes()
 }

@@ -353,21 +353,26 @@ fn in_form(text: &[u8]) -> Option<Ends> {
     }
 }
 
-/// "An end is `-` if below zero, a whole part of 1 to 7 digits with no needless leading zero, `.`, and three digits. `-0.000` is
-/// not in this form."
+/// "An end is `-` if below zero, a whole part of 1 to 7 digits with no needless leading zero", then, with document 02's Q-2, "no point at
+/// all, or a point with one to three digits; missing digits are zeros. `1.`, `-0` and `-0.0` stay malformed."
 fn end_of(text: &[u8]) -> Option<i64> {
     let (negative, digits) = match text.strip_prefix(b"-") {
         Some(rest) => (true, rest),
         None => (false, text),
     };
     let parts: Vec<&[u8]> = digits.split(|b| *b == b'.').collect();
-    let [whole, fraction] = parts[..] else { return None };
+    let (whole, fraction) = match parts[..] {
+        [whole] => (whole, &b"000"[..]),
+        [whole, fraction] => (whole, fraction),
+        _ => return None,
+    };
     let all_digits = whole.iter().chain(fraction).all(|b| b.is_ascii_digit());
     let needless_zero = whole.len() > 1 && whole[0] == b'0';
-    if !all_digits || !(1..=7).contains(&whole.len()) || fraction.len() != 3 || needless_zero {
+    if !all_digits || !(1..=7).contains(&whole.len()) || !(1..=3).contains(&fraction.len()) || needless_zero {
         return None;
     }
-    let size: i64 = std::str::from_utf8(&[whole, fraction].concat()).ok()?.parse().ok()?;
+    let missing = &b"00"[..3 - fraction.len()];
+    let size: i64 = std::str::from_utf8(&[whole, fraction, missing].concat()).ok()?.parse().ok()?;
     match (negative, size) {
         (true, 0) => None,
         (true, _) => Some(-size),
@@ -379,7 +384,7 @@ pub fn text_of(pair: Ends) -> String {
     format!("[{},{}]", end_text(pair.0), end_text(pair.1))
 }
 
-fn end_text(end: i64) -> String {
+pub fn end_text(end: i64) -> String {
     let sign = if end < 0 { "-" } else { "" };
     let size = end.unsigned_abs();
     format!("{sign}{}.{:03}", size / 1000, size % 1000)

@@ -16,11 +16,11 @@ use Rattle.directed.specs.Exact.{sort}
 use Rattle.directed.specs.Operations as operations
 use Rattle.directed.specs.Thousandths.{Pair, exact, beyond-range, rounded}
 use Rattle.directed_laws.specs.Operations.{divisor-5, stop-5}
-use Rattle.directed.specs.Answer.{Outcome, refusal, outcome, built, Judgement, sound, cause, unless, divisor, stop, within-range as held, in-range, unjudged-binary}
+use Rattle.directed.specs.Answer.{Outcome, refusal, outcome, built, Judgement, sound, cause, unless, divisor, stop, within-range, in-range, unjudged-binary}
 use Rattle.directed.specs.Answer as answers
 use Rattle.directed.specs.Equation.{solution, unjudged-equation}
 use Rattle.text.specs.Form.{form, value-of}
-use Rattle.text.specs.Answer.{within-range, read}
+use Rattle.text.specs.Answer.{read}
 use Rattle.lines.specs.declared.FirstField.{FirstField}
 use Rattle.lines.specs.declared.FirstField.the-variants.{Rounds, NoRounding}
 use Rattle.lines.specs.declared.SecondField.{SecondField}
@@ -187,7 +187,7 @@ module _ {l : List ℕ} where
   asks-answer {r} {o} {ps} t g a = let m = asks-many a in count-is t (m .0) (sym (pairs-many ps) ∙ m .1) ∙ with-good g (computed r o) ∙ asks-is a
 
   answered-is : {x : Outcome Pair} → Answered l x → answer l ≡ x
-  unfolding answer of-fields by-letters operate held
+  unfolding answer of-fields by-letters operate within-range
   answered-is (too-long h) = rw (lt-ltb longest (length l) h)
   answered-is (few-fields h c) = rw (le-ltb longest (length l) h, c)
   answered-is (first-letter h c n) = rw (le-ltb longest (length l) h, c, n)

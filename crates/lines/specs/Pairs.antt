@@ -1,12 +1,10 @@
 -- A pair's text has no space: so where one was read, up to a space or the end, its field ends.
 use mathlib.Core.Path.{_≡_, refl, sym, ap, _∙_}
 use mathlib.Core.Bool.{Bool, true, false, cond}
-use mathlib.Core.List.{List, [], _∷_, _++_}
+use mathlib.Core.List.{List, [], _∷_}
 use Prim.Native.Nat.{ℕ, suc, _+_, _-_, _≤_, _<_}
 use native.Mathlib.Omega.{arith}
 use lib.Dec.{eqb}
-use lib.IntN.{ℤ, pos}
-use lib.Signed.{ltZ}
 use lib.ListN.{length, take, drop, drop-of-length-le}
 use lib.Seq.{drop-drop}
 use borrow.Author.Tests.{ne-eqb}
@@ -14,11 +12,10 @@ use Rattle.directed.specs.declared.Interval.{Interval}
 use Rattle.directed.specs.Thousandths.{Pair}
 use Rattle.directed.specs.Lift.{pair-of}
 use Rattle.directed.specs.Answer.{Outcome, value, built}
-use Rattle.decimal.specs.Digits.{digits, decimal}
-use Rattle.decimal.specs.DigitLaws.{All-digits, digit-bounds, digits-all, decimal-all}
-use Rattle.text.specs.Text.{text, end-text, sign-text, size-text}
 use Rattle.text.specs.Answer.{read}
-use Rattle.text.specs.RoundTrip.{got-pair, text-reads-only}
+use Rattle.text.specs.TextLaws.{range-short}
+use Rattle.text.specs.RoundTrip.{got-pair, reads-only, spelled-form}
+use Rattle.text.specs.Clean.{Clean, form-clean}
 use Rattle.lines.specs.declared.PairSeen.{PairSeen}
 use Rattle.lines.specs.declared.PairSeen.the-variants.{Found, Unsure}
 use Rattle.lines.specs.Scan.{absent, position, position-block}
@@ -26,34 +23,14 @@ use Rattle.lines.specs.Line.{two, three}
 use Rattle.lines.specs.FieldLaws.{fields-behind, field-behind, none-behind, and-then}
 
 -- no space in a text
-absent-append : (s t : List ℕ) → absent 32 s ≡ true → absent 32 t ≡ true → absent 32 (s ++ t) ≡ true
-absent-append [] t p q = q
-absent-append (b ∷ s) t p q = go (eqb b 32) p (λ r. absent-append s t r q)
-  where
-    go : (x : Bool) → cond x false (absent 32 s) ≡ true → (absent 32 s ≡ true → absent 32 (s ++ t) ≡ true) → cond x false (absent 32 (s ++ t)) ≡ true
-    go true p f = p
-    go false p f = f p
-
-absent-digits : (s : List ℕ) → All-digits s → absent 32 s ≡ true
-absent-digits [] a = refl
-absent-digits (b ∷ s) a = rw (ne-eqb b 32 (omega (arith, digit-bounds b (a .0)))) (absent-digits s (a .1))
-
-absent-sign : (t : Bool) → absent 32 (sign-text t) ≡ true
-unfolding sign-text
-absent-sign true = refl
-absent-sign false = refl
-
-absent-end : (e : ℤ) → absent 32 (end-text e) ≡ true
-unfolding end-text size-text
-absent-end e =
-    absent-append (sign-text (ltZ e (pos 0))) _ (absent-sign (ltZ e (pos 0)))
-    (absent-append (decimal _) _ (absent-digits (decimal _) (decimal-all _)) (absent-digits (digits 3 _) (digits-all 3 _)))
+clean-absent : (s : List ℕ) → Clean s → absent 32 s ≡ true
+clean-absent [] c = refl
+clean-absent (b ∷ s) c = rw (ne-eqb b 32 (omega (arith, c .0))) (clean-absent s (c .2))
 
 pub pair-no-space : (t : List ℕ) (a : Interval) → built (read t) ≡ value a → absent 32 t ≡ true
-unfolding text
 pair-no-space t a e =
-    rw (text-reads-only t (pair-of a) (got-pair (read t) a e) .0)
-    (absent-append (end-text (a .lower)) _ (absent-end (a .lower)) (absent-append (end-text (a .upper)) _ (absent-end (a .upper)) refl))
+    let r = reads-only t (pair-of a) (got-pair (read t) a e) in
+    clean-absent t (form-clean t (spelled-form (range-short (pair-of a) (r .1), r .0)))
 
 -- where the byte was found, it is found at once
 position-zero : (x : ℕ) (s : List ℕ) → position x (drop (position x s) s) ≡ 0

@@ -123,18 +123,18 @@ fn of_three(rounding: Rounding, first: &[u8], second: &[u8], third: &[u8]) -> An
     }
 }
 
-// A look at the field behind the one that ends at `end`. A pair's text has 13 bytes or more.
+// A look at the field behind the one that ends at `end`. A pair's text has 5 bytes or more.
 fn see_next(line: &[u8], end: usize) -> PairSeen
     ensures { λ r. ⌜ Seen (now (line .entry)) end r ⌝ }
 {
-    if line.len() < 14 {
+    if line.len() < 6 {
         return PairSeen::Unsure;
     }
-    if line.len() - 14 < end {
+    if line.len() - 6 < end {
         return PairSeen::Unsure;
     }
     let from = end + 1;
-    let next = scan::find_near(b' ', line, end + 14);
+    let next = scan::find_near(b' ', line, end + 6);
     match text::read(&line[from..next]) {
         Answer::Value(a) => PairSeen::Found(a, next),
         Answer::Refused(_) => PairSeen::Unsure,

@@ -1,60 +1,73 @@
 -- What the parts of the reader answer.
-use mathlib.Core.Bool.{Bool, _&&_}
+use mathlib.Core.Path.{_≡_}
+use mathlib.Core.Bool.{Bool, true, false, _&&_}
 use mathlib.Core.List.{List}
-use Prim.Native.Nat.{ℕ, _+_}
-use lib.Dec.{eqb}
-use lib.ListN.{length, drop}
+use Prim.Native.Nat.{ℕ, _+_, _-_, _*_, _<_}
+use lib.Dec.{leb, eqb}
+use lib.IntN.{ℤ}
+use lib.ListN.{length, drop, getD}
 use Rattle.directed.specs.Choice.{if_then_else_}
-use Rattle.directed.specs.Thousandths.{Pair, pair}
-use Rattle.directed.specs.Answer.{Outcome, refusal}
-use Rattle.text.specs.declared.end.PartRead.{PartRead}
-use Rattle.text.specs.declared.end.PartRead.the-variants as P
-use Rattle.text.specs.declared.end.SizeRead.{SizeRead}
-use Rattle.text.specs.declared.end.SizeRead.the-variants as S
-use Rattle.text.specs.declared.end.EndRead.{EndRead}
-use Rattle.text.specs.declared.end.EndRead.the-variants as E
-use Rattle.decimal.specs.Digits.{number, starts, front-digits}
+use Rattle.text.specs.declared.size.DigitRun.{DigitRun}
+use Rattle.text.specs.declared.size.SizeRead.{SizeRead}
+use Rattle.text.specs.declared.size.SizeRead.the-variants as S
+use Rattle.text.specs.declared.front.Lead.{Lead}
+use Rattle.text.specs.declared.front.Lead.the-variants as L
+use Rattle.text.specs.declared.front.EndRead.{EndRead}
+use Rattle.text.specs.declared.front.EndRead.the-variants as E
+use Rattle.text.specs.declared.PairFront.{PairFront}
+use Rattle.text.specs.declared.PairFront.the-variants as F
+use Rattle.decimal.specs.Digits.{is-digit, number-behind, starts, front-digits}
 use Rattle.text.specs.Text.{minus, comma, closing}
-use Rattle.text.specs.Form.{size-form, size, size-length, unsigned, end-form, signed, end-length}
-use Rattle.text.specs.Answer.{within-range}
+use Rattle.text.specs.Form.{scaled, size-form, size, size-length, end-form, signed, end-value, end-length}
 
--- three digits and a mark at the front of t: the digits' number
-unfoldable pub part-answer : List ℕ → ℕ → PartRead
-part-answer t mark = if eqb (length (front-digits 3 t)) 3 && starts mark (drop 3 t) then P.Found (number (front-digits 3 t)) else P.Malformed
+-- r is what the byte b is worth as a digit, and above 9 where it is none
+pub record Digit (b r : ℕ) : Type 0 where
+  pub worth : is-digit b ≡ true → r ≡ b - 48
+  pub none : is-digit b ≡ false → 9 < r
 
--- an end with no sign and a mark at the front of t, which begins at `at`: its thousandths, and the place behind the mark
-unfoldable pub size-answer : List ℕ → ℕ → ℕ → SizeRead
-size-answer t at mark = if size-form t && starts mark (drop (size-length t) t) then S.Found (size t) (at + size-length t + 1) else S.Malformed
+-- the digits ds were read, from `at` on and behind the digits of v
+pub record Read-digits (v at : ℕ) (ds : List ℕ) (r : DigitRun) : Type 0 where
+  pub value-is : r .value ≡ number-behind v ds
+  pub next-is : r .next ≡ at + length ds
 
--- an end and a mark at the front of t, which begins at `at`
-unfoldable pub end-answer : List ℕ → ℕ → ℕ → EndRead
-end-answer t at mark =
-    if end-form t && starts mark (drop (end-length t) t)
-    then E.Found (record { minus = starts minus t; size = size (unsigned t); next = at + end-length t + 1 })
-    else E.Malformed
+-- one to three digits at the front of t, behind a whole part and its point
+unfoldable pub part-answer : ℕ → List ℕ → ℕ → SizeRead
+part-answer v t at =
+    if leb 1 (length (front-digits 3 t)) then S.Found (v * 1000 + scaled (front-digits 3 t)) (at + length (front-digits 3 t)) else S.Malformed
 
--- `-0.000` is none
+-- an end with no sign at the front of t, which begins at `at`: its thousandths, and the place behind it
+unfoldable pub size-answer : List ℕ → ℕ → SizeRead
+size-answer t at = if size-form t then S.Found (size t) (at + size-length t) else S.Malformed
+
+-- the sign, if there is one, and a digit
+unfoldable pub lead-answer : List ℕ → ℕ → Lead
+lead-answer s from =
+    if is-digit (getD s from 0) then L.Found false (getD s from 0 - 48) from
+    else (if eqb (getD s from 0) minus && is-digit (getD s (from + 1) 0) then L.Found true (getD s (from + 1) 0 - 48) (from + 1) else L.Malformed)
+
+-- minus zero is no end
 unfoldable pub end-of : Bool → ℕ → ℕ → EndRead
-end-of m n next = if m && eqb n 0 then E.Malformed else E.Found (record { minus = m; size = n; next = next })
+end-of m n next = if m && eqb n 0 then E.Malformed else E.Found (signed m n) next
 
--- two ends in form
-abbrev pub ends-of : Bool → ℕ → Bool → ℕ → Pair
-ends-of m n m′ n′ = pair (signed m n) (signed m′ n′)
+abbrev pub from-size : Bool → SizeRead → EndRead
+from-size m (S.Found n next) = end-of m n next
+from-size m S.Malformed = E.Malformed
 
--- what is left from the upper end on, where the lower has the sign m and n thousandths
-unfoldable pub upper-answer : List ℕ → Bool → ℕ → Outcome Pair
-upper-answer t m n =
-    if end-form t && (starts closing (drop (end-length t) t) && eqb (length (drop (end-length t) t)) 1)
-    then within-range (ends-of m n (starts minus t) (size (unsigned t)))
-    else refusal 1
+-- an end at the front of t, which begins at `at`
+unfoldable pub end-answer : List ℕ → ℕ → EndRead
+end-answer t at = if end-form t then E.Found (end-value t) (at + end-length t) else E.Malformed
+
+-- what is left from the upper end on, behind the lower end l
+unfoldable pub upper-answer : List ℕ → ℕ → ℤ → PairFront
+upper-answer t at l = if end-form t && starts closing (drop (end-length t) t) then F.Found l (end-value t) (at + end-length t + 1) else F.Malformed
 
 -- what is left from the lower end on
-unfoldable pub lower-answer : List ℕ → Outcome Pair
-lower-answer t =
+unfoldable pub lower-answer : List ℕ → ℕ → PairFront
+lower-answer t at =
     if end-form t && starts comma (drop (end-length t) t)
-    then upper-answer (drop 1 (drop (end-length t) t)) (starts minus t) (size (unsigned t))
-    else refusal 1
+    then upper-answer (drop 1 (drop (end-length t) t)) (at + end-length t + 1) (end-value t)
+    else F.Malformed
 
 -- what is left from the first or the second end on
-unfoldable pub ends-answer : Bool → Bool → ℕ → List ℕ → Outcome Pair
-ends-answer first m n t = if first then lower-answer t else upper-answer t m n
+unfoldable pub ends-answer : Bool → ℤ → List ℕ → ℕ → PairFront
+ends-answer first l t at = if first then lower-answer t at else upper-answer t at l

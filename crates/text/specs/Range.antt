@@ -1,12 +1,13 @@
 -- The range of an end in terms of its size, and of a pair end by end.
 use mathlib.Core.Path.{_≡_, refl, sym, ap, _∙_}
-use mathlib.Core.Bool.{Bool, true, false, _||_, true≢false}
+use mathlib.Core.Bool.{Bool, true, false, _||_}
 use Prim.Native.Nat.{ℕ, zero, suc, _≤_}
 use native.Mathlib.Omega.{arith}
 use lib.Dec.{ltb}
 use lib.IntN.{ℤ, pos, negsuc, natAbs}
 use borrow.Author.Tests.{ltb-true, ltb-false, lt-ltb, le-ltb}
 use Rattle.directed.specs.declared.Interval.{Interval}
+use Rattle.directed.specs.Choice.{or-false}
 use Rattle.directed.specs.Thousandths.{Pair, outside, beyond-range}
 use Rattle.directed.specs.Lift.{pair-of, interval, faulty}
 use Rattle.text.specs.Form.{signed}
@@ -14,10 +15,6 @@ use Rattle.text.specs.Form.{signed}
 -- how far an end in the range is from zero, at most
 abbrev pub limit : ℕ
 limit = 2000000000
-
-neither : (a b : Bool) → (a || b) ≡ false → (a ≡ false) × (b ≡ false)
-neither true b e = absurd (true≢false e)
-neither false b e = (refl, e)
 
 -- an end is outside if its size is beyond the greatest
 pub outside-size : (e : ℤ) → outside e ≡ ltb limit (natAbs e)
@@ -43,7 +40,7 @@ outside-signed m n = outside-size (signed m n) ∙ ap (ltb limit) (signed-size m
 
 pub range-ends : (a : Pair) → beyond-range a ≡ false → (outside (a .lower) ≡ false) × (outside (a .upper) ≡ false)
 unfolding beyond-range
-range-ends a e = neither (outside (a .lower)) (outside (a .upper)) e
+range-ends a e = or-false (outside (a .lower)) (outside (a .upper)) e
 
 -- what 2 says of an interval in memory, and of one that was just built
 pub sound-range : (a : Interval) → faulty a ≡ false → beyond-range (pair-of a) ≡ false

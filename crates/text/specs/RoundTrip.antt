@@ -1,20 +1,21 @@
--- "A printed pair reads back as the same pair, and no other text reads as it"; and exactly when each refusal comes.
+-- 02's Q-2: "each pair has one written text, that text reads back as the pair, and several other texts may read as it too". Which these are, and
+-- exactly when each refusal comes.
 use mathlib.Core.Path.{_≡_, refl, sym, ap, _∙_}
 use mathlib.Core.Bool.{Bool, true, false, cond}
 use mathlib.Core.List.{List, [], _∷_}
 use mathlib.Core.Logic.{_↔_}
-use Prim.Native.Nat.{ℕ, _≤_, _<_}
+use Prim.Native.Nat.{ℕ, _+_, _%_, _≤_, _<_}
 use native.Mathlib.Omega.{arith}
-use lib.Dec.{leb}
-use lib.IntN.{negsuc}
+use lib.Dec.{leb, eqb}
+use lib.IntN.{negsuc, natAbs}
 use lib.ListN.{length, take, drop}
-use lib.Seq.{take-append-seam}
-use borrow.Author.Tests.{leb-true, leb-false, le-leb, lt-leb}
+use lib.Seq.{take-append-seam, take-all}
+use borrow.Author.Tests.{leb-true, leb-false, le-leb, lt-leb, eqb-true, eq-eqb}
 use Rattle.directed.specs.declared.Interval.{Interval}
 use Rattle.directed.specs.Thousandths.{Pair, pair, outside, beyond-range}
 use Rattle.directed.specs.Choice.{if_then_else_}
 use Rattle.directed.specs.Lift.{pair-of, interval, faulty}
-use Rattle.directed.specs.Answer.{Outcome, value, refusal, outcome, built, unless, given, sound, cause}
+use Rattle.directed.specs.Answer.{Outcome, value, refusal, outcome, built, unless, given, sound, cause, within-range}
 use Rattle.decimal.specs.Place.{over}
 use Rattle.decimal.specs.Digits.{digits, width, width-within, decimal}
 use Rattle.directed.specs.declared.Answer.{Answer}
@@ -22,17 +23,64 @@ use Rattle.directed.specs.declared.Answer.the-variants.{Value}
 use Rattle.text.specs.declared.Written.{Written}
 use Rattle.text.specs.declared.Written.the-variants.{Length}
 use Rattle.text.specs.Text.{text, end-text, sign-text, size-text, longest}
-use Rattle.text.specs.Form.{form, value-of}
-use Rattle.text.specs.Answer.{within-range, read, told, writing, in-room, leaving, write}
+use Rattle.text.specs.Form.{pair-form, pair-length, form, value-of}
+use Rattle.text.specs.Answer.{read, told, writing, in-room, leaving, write}
 use Rattle.text.specs.Range.{sound-range}
-use Rattle.text.specs.TextLaws.{Short, text-form, text-value, value-short, form-text, range-short}
+use Rattle.text.specs.EndLaws.{both}
+use Rattle.text.specs.TextLaws.{Short, range-short}
+use Rattle.text.specs.Spelling.{Spells, Spells-end}
+use Rattle.text.specs.PairSpelling.{pair-text, pair-text-length, Pair-facts, spelled-pair, pair-cut}
 
--- in form: the text of a pair whose ends have at most seven digits before the point
+-- the texts of a pair: each end as it is spelled, in its marks
+pub record Spelled (t : List ℕ) (a : Pair) : Type 0 where
+  pub lower-part : List ℕ
+  pub upper-part : List ℕ
+  pub lower-spelled : Spells-end (a .lower) lower-part
+  pub upper-spelled : Spells-end (a .upper) upper-part
+  pub spelled : t ≡ pair-text lower-part upper-part []
+
+-- in form: a text of a pair whose ends have at most seven digits before the point
 abbrev pub Writes : List ℕ → Pair → Type 0
-Writes t a = Short a × (t ≡ text a)
+Writes t a = Short a × Spelled t a
+
+pub form-spelled : (t : List ℕ) → form t ≡ true → Writes t (value-of t)
+unfolding form
+form-spelled t e =
+    let q = both (pair-form t) (eqb (pair-length t) (length t)) e in
+    let p = pair-cut t (q .0) in
+    let w : t ≡ take (pair-length t) t = sym (take-all (pair-length t) t (omega (arith, eqb-true (pair-length t) (length t) (q .1)))) in
+    (p .short, record { lower-part = p .lower-part; upper-part = p .upper-part; lower-spelled = p .lower-spelled; upper-spelled = p .upper-spelled; spelled = w ∙ p .cut })
+
+module _ {t : List ℕ} {a : Pair} (w : Writes t a) where
+  facts : Pair-facts (pair-text (w .1 .lower-part) (w .1 .upper-part) []) a (1 + length (w .1 .lower-part) + 1 + length (w .1 .upper-part) + 1)
+  facts = spelled-pair (w .0) (w .1 .lower-spelled) (w .1 .upper-spelled) []
+
+  pub spelled-form : form t ≡ true
+  unfolding form
+  spelled-form =
+      let l : pair-length t ≡ length t = ap pair-length (w .1 .spelled) ∙ facts .length-is ∙ sym (ap length (w .1 .spelled) ∙ pair-text-length (w .1 .lower-part) (w .1 .upper-part) [] ∙ omega arith) in
+      rw (ap pair-form (w .1 .spelled) ∙ facts .in-form, eq-eqb (pair-length t) (length t) l)
+
+  pub spelled-value : value-of t ≡ a
+  spelled-value = ap value-of (w .1 .spelled) ∙ facts .value-is
 
 pub form-iff : (t : List ℕ) → (form t ≡ true) ↔ ((a : Pair) × Writes t a)
-form-iff t = (λ e. (value-of t, (value-short t e, form-text t e)), λ w. rw (w .1 .1) (text-form (w .0) (w .1 .0)))
+form-iff t = (λ e. (value-of t, form-spelled t e), λ w. spelled-form (w .1))
+
+-- the written text is one of them
+text-spells : (n : ℕ) → Spells n (size-text n)
+unfolding size-text digits
+text-spells n = record { part = digits 3 (n % 1000); short = omega arith; padded = refl; spelled = refl }
+
+pub text-spelled : (a : Pair) → Spelled (text a) a
+unfolding text end-text
+text-spelled a = record {
+  lower-part = end-text (a .lower);
+  upper-part = end-text (a .upper);
+  lower-spelled = record { rest = size-text (natAbs (a .lower)); spells = text-spells (natAbs (a .lower)); signs = refl };
+  upper-spelled = record { rest = size-text (natAbs (a .upper)); spells = text-spells (natAbs (a .upper)); signs = refl };
+  spelled = refl;
+}
 
 -- what is read, by form and range
 chosen : Bool → Bool → Pair → Outcome Pair
@@ -42,28 +90,31 @@ read-is : (t : List ℕ) → read t ≡ chosen (form t) (beyond-range (value-of 
 unfolding read within-range chosen
 read-is t = refl
 
--- 1: the text of a pair in range is in form, and reads back as that pair
+-- 1: which texts read as a pair
 
-pub text-in-form : (a : Pair) → beyond-range a ≡ false → form (text a) ≡ true
-text-in-form a e = text-form a (range-short a e)
-
-pub text-reads-back : (a : Pair) → beyond-range a ≡ false → read (text a) ≡ value a
-unfolding read within-range
-text-reads-back a e = rw (text-in-form a e, text-value a (range-short a e), e)
-
--- 2: no other text reads as it
-
-pub text-reads-only : (t : List ℕ) (a : Pair) → read t ≡ value a → (t ≡ text a) × (beyond-range a ≡ false)
+pub reads-only : (t : List ℕ) (a : Pair) → read t ≡ value a → Spelled t a × (beyond-range a ≡ false)
 unfolding chosen
-text-reads-only t a e = go (form t) (beyond-range (value-of t)) refl refl (sym (read-is t) ∙ e)
+reads-only t a e = go (form t) (beyond-range (value-of t)) refl refl (sym (read-is t) ∙ e)
   where
-    go : (f r : Bool) → form t ≡ f → beyond-range (value-of t) ≡ r → chosen f r (value-of t) ≡ value a → (t ≡ text a) × (beyond-range a ≡ false)
-    go true false p q c = let s : value-of t ≡ a = cc in (form-text t p ∙ ap text s, ap beyond-range (sym s) ∙ q)
+    go : (f r : Bool) → form t ≡ f → beyond-range (value-of t) ≡ r → chosen f r (value-of t) ≡ value a → Spelled t a × (beyond-range a ≡ false)
+    go true false p q c = let s : value-of t ≡ a = cc in (rw s at (form-spelled t p .1), ap beyond-range (sym s) ∙ q)
     go true true p q c = let z : _≡_ {A = ℕ} 0 1 = cc in absurd (omega arith)
     go false r p q c = let z : _≡_ {A = ℕ} 0 1 = cc in absurd (omega arith)
 
-pub text-reads-iff : (t : List ℕ) (a : Pair) → (read t ≡ value a) ↔ ((t ≡ text a) × (beyond-range a ≡ false))
-text-reads-iff t a = (text-reads-only t a, λ w. rw (w .0) (text-reads-back a (w .1)))
+spelled-reads : (t : List ℕ) (a : Pair) → Spelled t a → beyond-range a ≡ false → read t ≡ value a
+unfolding read within-range
+spelled-reads t a w e = let q : Writes t a = (range-short a e, w) in rw (spelled-form q, spelled-value q, e)
+
+pub reads-iff : (t : List ℕ) (a : Pair) → (read t ≡ value a) ↔ (Spelled t a × (beyond-range a ≡ false))
+reads-iff t a = (reads-only t a, λ w. spelled-reads t a (w .0) (w .1))
+
+-- 2: the text of a pair in range is in form, and reads back as that pair
+
+pub text-in-form : (a : Pair) → beyond-range a ≡ false → form (text a) ≡ true
+text-in-form a e = spelled-form (range-short a e, text-spelled a)
+
+pub text-reads-back : (a : Pair) → beyond-range a ≡ false → read (text a) ≡ value a
+text-reads-back a e = spelled-reads (text a) a (text-spelled a) e
 
 -- 3: "The longest valid text has 27 bytes." TextLaws.text-longest has the bound; [-2000000.000,-2000000.000] reaches it
 
@@ -102,8 +153,8 @@ read-1-writes t = (λ e w. let z : _≡_ {A = Bool} true false = sym (form-iff t
 
 pub read-2-writes : (t : List ℕ) → (read t ≡ refusal 2) ↔ ((a : Pair) × Writes t a × (beyond-range a ≡ true))
 read-2-writes t = (
-  λ e. let p = read-2-iff t .0 e in (value-of t, (value-short t (p .0), form-text t (p .0)), p .1),
-  λ w. rw (w .1 .1) (read-2-iff (text (w .0)) .1 (text-form (w .0) (w .1 .0), rw (text-value (w .0) (w .1 .0)) (w .2))),
+  λ e. let p = read-2-iff t .0 e in (value-of t, form-spelled t (p .0), p .1),
+  λ w. read-2-iff t .1 (spelled-form (w .1), ap beyond-range (spelled-value (w .1)) ∙ w .2),
 )
 
 -- writing: each refusal exactly if its cause holds; then the buffer is as it was, and else its front reads back as the pair
@@ -170,14 +221,15 @@ module _ (a : Interval) (d : List ℕ) where
       go (value n) c = let z : _≡_ {A = ℕ} 0 1 = cc in absurd (omega arith)
       go (refusal k) c = refl
 
+  -- what is written is the text, and nothing else
+  pub written-is : (n : ℕ) → write a d .answer ≡ value n → take n (write a d .buffer) ≡ text (pair-of a)
+  unfolding over t
+  written-is n e =
+      let w = write-value-iff n .0 e in
+      rw (write-buffer (w .0) (w .1), w .2) (take-append-seam t (drop (length t) d))
+
   pub written-reads-back : (n : ℕ) → write a d .answer ≡ value n → read (take n (write a d .buffer)) ≡ value (pair-of a)
-  unfolding t choice leaving over
-  written-reads-back n e = rw (told-is a d) (go (faulty a) (leb (length t) (length d)) refl (ap (λ w. w .answer) (sym (told-is a d)) ∙ e))
-    where
-      go : (r f : Bool) → faulty a ≡ r → leaving t d (choice r f (length t)) .answer ≡ value n → read (take n (leaving t d (choice r f (length t)) .buffer)) ≡ value (pair-of a)
-      go true f p c = let z : _≡_ {A = ℕ} 0 1 = cc in absurd (omega arith)
-      go false true p c = let q : length t ≡ n = cc in rw (← q, take-append-seam t (drop (length t) d)) (text-reads-back (pair-of a) (sound-range a p))
-      go false false p c = let z : _≡_ {A = ℕ} 0 1 = cc in absurd (omega arith)
+  written-reads-back n e = ap read (written-is n e) ∙ text-reads-back (pair-of a) (sound-range a (write-value-iff n .0 e .0))
 
 -- the same of what `write` and `read` return, with their contracts as the only premises
 
@@ -193,6 +245,17 @@ returned-reads-back a d l w n o e f g =
     let r = written-reads-back a d n (ap (λ x. x .answer) (sym e) ∙ ap told f) in
     g ∙ ap (λ x. built (read (take n x))) b ∙ ap built r
 
--- and no other text reads as it
-pub returned-only : (t : List ℕ) (a : Interval) (o : Answer) → outcome o ≡ built (read t) → o ≡ Value a → t ≡ text (pair-of a)
-returned-only t a o e f = text-reads-only t (pair-of a) (got-pair (read t) a (sym e ∙ ap outcome f)) .0
+-- the texts for which it is returned
+pub returned-iff : (t : List ℕ) (a : Pair) (o : Answer) → outcome o ≡ built (read t) → (outcome o ≡ value (interval a)) ↔ (Spelled t a × (beyond-range a ≡ false))
+returned-iff t a o e = (λ f. reads-only t a (got-pair (read t) (interval a) (sym e ∙ f)), λ w. e ∙ ap built (spelled-reads t a (w .0) (w .1)))
+
+-- of the texts that are written no other reads as it
+pub returned-only : (a b : Interval) (d l : List ℕ) (w : Written) (n : ℕ) (o : Answer) → writing w l ≡ write b d → w ≡ Length n → outcome o ≡ built (read (take n l))
+    → o ≡ Value a → take n l ≡ text (pair-of a)
+returned-only a b d l w n o e f g h =
+    let k : write b d .answer ≡ value n = ap (λ x. x .answer) (sym e) ∙ ap told f in
+    let r : read (take n l) ≡ value (pair-of a) = got-pair (read (take n l)) a (sym g ∙ ap outcome h) in
+    let s : take n l ≡ text (pair-of b) = ap (λ x. take n (x .buffer)) e ∙ written-is b d n k in
+    let p : value (pair-of b) ≡ value (pair-of a) = sym (written-reads-back b d n k) ∙ ap (λ x. read (take n (x .buffer))) (sym e) ∙ r in
+    let q : pair-of b ≡ pair-of a = cc in
+    s ∙ ap text q

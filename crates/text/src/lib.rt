@@ -2,20 +2,18 @@
 use directed::Answer;
 use directed::Cause;
 use directed::Interval;
-use end::EndRead;
 ghost use mathlib.Core.Path.{_≡_};
-ghost use mathlib.Core.Bool.{cond};
 ghost use lib.Dec.{leb};
 ghost use lib.ListN.{length};
 ghost use Rattle.decimal.specs.PlaceLaws.{Fitting};
 ghost use Rattle.directed.specs.Thousandths.{pair};
 ghost use Rattle.directed.specs.Answer.{outcome, built};
-ghost use Rattle.text.specs.Text.{comma, closing, text};
-ghost use Rattle.text.specs.Answer.{within-range, read, write, writing};
-ghost use Rattle.text.specs.Parts.{ends-of};
+ghost use Rattle.text.specs.Text.{text};
+ghost use Rattle.text.specs.Answer.{read, line-front, write, writing};
 
-mod digits;
 mod end;
+mod front;
+mod size;
 
 // The longest text.
 const LONGEST: usize = 27;
@@ -26,61 +24,43 @@ pub enum Written {
     Refused(Cause),
 }
 
-// Two ends in form, each with its sign and its thousandths.
-fn judge(lm: bool, lower: u64, um: bool, upper: u64) -> Answer
-    ensures { λ r. ⌜ outcome r ≡ built (within-range (ends-of lm lower um upper)) ⌝ }
-{
-    if end::is_outside(lower) {
-        return Answer::Refused(Cause::EndBeyondRange);
-    }
-    if end::is_outside(upper) {
-        return Answer::Refused(Cause::EndBeyondRange);
-    }
-    let l = end::signed_of(lm, lower);
-    let u = end::signed_of(um, upper);
-    Answer::Value(Interval::new(l, u))
+// What stands at the front of a text: the ends of a pair in form, not yet held to the range, and the place behind it; or no pair.
+pub enum PairFront {
+    Found { lower: i64, upper: i64, next: usize },
+    Malformed,
 }
 
-fn mark_behind(first: bool) -> u8
-    ensures { λ r. ⌜ r ≡ cond first comma closing ⌝ }
+// The pair that begins at `from` of a text that byte 10 ends. No pair goes past that byte, so nothing else tests where the text ends.
+pub fn read_front(text: &[u8], from: usize) -> PairFront
+    ensures { λ r. ⌜ r ≡ line-front (now (text .entry)) from ⌝ }
 {
-    if first { b',' } else { b']' }
+    if text.len() <= from {
+        return PairFront::Malformed;
+    }
+    if text[text.len() - 1] != b'\n' {
+        return PairFront::Malformed;
+    }
+    front::read_pair(text, from)
 }
 
 // The interval that a text writes: refused with 1 if the text is not in form, with 2 if an end is beyond the range.
-// One call reads both ends, so that the compiler puts the reader of an end in its place and keeps it all in registers.
 pub fn read(text: &[u8]) -> Answer
     ensures { λ r. ⌜ outcome r ≡ built (read (now (text .entry))) ⌝ }
 {
     if text.len() == 0 {
         return Answer::Refused(Cause::Malformed);
     }
-    if text[0] != b'[' {
+    if text[text.len() - 1] != b']' {
         return Answer::Refused(Cause::Malformed);
     }
-    let mut at = 1;
-    let mut first = true;
-    let mut minus = false;
-    let mut size: u64 = 0;
-    loop {
-        let found = end::read_end(text, at, mark_behind(first));
-        match found {
-            EndRead::Found(end) => {
-                if !first {
-                    if end.next != text.len() {
-                        return Answer::Refused(Cause::Malformed);
-                    }
-                    return judge(minus, size, end.minus, end.size);
-                }
-                first = false;
-                minus = end.minus;
-                size = end.size;
-                at = end.next;
-            }
-            EndRead::Malformed => {
+    match front::read_pair(text, 0) {
+        PairFront::Found { lower, upper, next } => {
+            if next != text.len() {
                 return Answer::Refused(Cause::Malformed);
             }
+            Answer::within_range(lower, upper, Cause::EndBeyondRange)
         }
+        PairFront::Malformed => Answer::Refused(Cause::Malformed),
     }
 }
 
