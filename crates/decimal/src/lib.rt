@@ -1,8 +1,8 @@
 // Decimal digits, written into a lent buffer: the one writer of numbers. Each `put_` writes its text from `at` on and answers the place behind
 // it; where the text finds no room nothing is written, and the answer is `at`.
 ghost use mathlib.Core.Path.{_≡_};
-ghost use mathlib.Core.List.{[], _∷_};
-ghost use Prim.Native.Nat.{_+_, _^_, _≤_, _<_};
+ghost use mathlib.Core.List.{[], _∷_, _++_};
+ghost use Prim.Native.Nat.{_+_, _/_, _%_, _^_, _≤_, _<_};
 ghost use lib.Dec.{leb};
 ghost use lib.ListN.{length};
 ghost use Rattle.decimal.specs.Digits.{digits, width, decimal};
@@ -132,6 +132,46 @@ pub fn put_number(n: u32, at: usize, buffer: &mut [u8]) -> usize
         return put_digits(n, 7, at, buffer);
     }
     put_digits(n, width_of(n), at, buffer)
+}
+
+// n thousandths, whose whole part is given k digits: that, `.` and three digits. Room is asked for once.
+fn put_pointed(n: u32, k: usize, at: usize, buffer: &mut [u8]) -> usize
+    requires { ⌜ k ≤ 7 ⌝ }
+    ensures { λ r. ⌜ Placed (digits k (n / 1000) ++ (46 ∷ digits 3 (n % 1000))) at (now (buffer .entry)) r (now (buffer .exit)) ⌝ }
+{
+    if !has_room(k + 4, at, buffer.len()) {
+        return at;
+    }
+    let point = at + k;
+    fill_digits(n / 1000, k, at, buffer);
+    buffer[point] = b'.';
+    fill_digits(n % 1000, 3, point + 1, buffer);
+    point + 4
+}
+
+// A number of thousandths, with the point.
+pub fn put_thousandths(n: u32, at: usize, buffer: &mut [u8]) -> usize
+    ensures { λ r. ⌜ Placed (decimal (n / 1000) ++ (46 ∷ digits 3 (n % 1000))) at (now (buffer .entry)) r (now (buffer .exit)) ⌝ }
+{
+    if n < power(2) * 1000 {
+        if n < power(1) * 1000 {
+            return put_pointed(n, 1, at, buffer);
+        }
+        return put_pointed(n, 2, at, buffer);
+    }
+    if n < power(4) * 1000 {
+        if n < power(3) * 1000 {
+            return put_pointed(n, 3, at, buffer);
+        }
+        return put_pointed(n, 4, at, buffer);
+    }
+    if n < power(6) * 1000 {
+        if n < power(5) * 1000 {
+            return put_pointed(n, 5, at, buffer);
+        }
+        return put_pointed(n, 6, at, buffer);
+    }
+    put_pointed(n, 7, at, buffer)
 }
 
 fn width_of_long(n: u64) -> usize

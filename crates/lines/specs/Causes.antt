@@ -26,7 +26,7 @@ use Rattle.lines.specs.declared.FirstField.the-variants.{Rounds, NoRound
 use Rattle.lines.specs.declared.SecondField.{SecondField}
 use Rattle.lines.specs.declared.SecondField.the-variants.{Two, Equation, NoOperation}
 use Rattle.lines.specs.Fields.{fields}
-use Rattle.lines.specs.FieldLaws.{some-field}
+use Rattle.lines.specs.Cut.{some-field}
 use Rattle.lines.specs.Line.{longest, first-field, second-field, with-pair, operate, by-letters, of-fields, answer}
 use Rattle.lines.specs.Output.{unbuilt}
 use Rattle.lines.specs.OutputLaws.{unbuilt-built}

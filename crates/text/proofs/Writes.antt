@@ -1,31 +1,26 @@
 -- The texts that the writers put together, and what the writer of a pair answers.
-use mathlib.Core.Path.{_≡_, ap, ap₂, _∙_}
+use mathlib.Core.Path.{_≡_, refl, sym, ap, ap₂, _∙_}
 use mathlib.Core.Bool.{Bool, true, false, cond}
 use mathlib.Core.List.{List, [], _∷_, _++_, append-assoc}
-use Prim.Native.Nat.{ℕ, _+_, _/_, _%_}
+use Prim.Native.Nat.{ℕ, _+_, _/_}
 use native.Mathlib.Nat.{zero-add}
 use native.Mathlib.Omega.{arith}
 use lib.Dec.{leb}
 use lib.IntN.{ℤ, pos, natAbs}
 use lib.Signed.{ltZ}
 use lib.ListN.{length}
-use borrow.Author.Tests.{leb-true}
-use Rattle.decimal.specs.Digits.{digits, decimal, width}
-use Rattle.decimal.specs.PlaceLaws.{Fitting, put-front}
+use Rattle.decimal.specs.Digits.{width}
+use Rattle.decimal.specs.Place.{over, put, placement, place, Placed}
+use Rattle.decimal.specs.PlaceLaws.{put-front}
 use Rattle.directed.specs.declared.Interval.{Interval}
 use Rattle.directed.specs.declared.Cause.the-variants.{EndBeyondRange, ShortBuffer}
 use Rattle.directed.specs.Thousandths.{pair}
 use Rattle.directed.specs.Lift.{pair-of, faulty}
 use Rattle.directed.specs.Answer.{value, given}
 use Rattle.text.specs.declared.Written.the-variants.{Length, Refused}
-use Rattle.text.specs.Text.{point, opening, comma, closing, size-text, sign-text, end-text, text}
+use Rattle.text.specs.Text.{opening, comma, closing, size-text, sign-text, end-text, text}
 use Rattle.text.specs.Answer.{in-room, leaving, write, writing}
 use Rattle.text.specs.EndLaws.{size-text-length, end-text-length}
-
--- the whole part, the point and three digits
-pub size-parts : (n : ℕ) → (decimal (n / 1000) ++ (point ∷ [])) ++ digits 3 (n % 1000) ≡ size-text n
-unfolding size-text
-size-parts n = append-assoc (decimal (n / 1000)) (point ∷ []) (digits 3 (n % 1000))
 
 -- the sign and the thousandths
 pub end-parts : (e : ℤ) (m : Bool) (n : ℕ) → m ≡ ltZ e (pos 0) → n ≡ natAbs e → sign-text m ++ size-text n ≡ end-text e
@@ -44,18 +39,27 @@ module _ (a : Interval) (d : List ℕ) where
   unfolding write given leaving
   out-of-range e = rw e
 
-  module _ (e : faulty a ≡ false) where
-    pub no-room : leb (length (text (pair-of a))) (length d) ≡ false → writing (Refused ShortBuffer) d ≡ write a d
-    unfolding write given leaving in-room
-    no-room f = rw (e, f)
+  -- a writer that finds no room answers 0, and a text is never that short
+  pub written : (e : faulty a ≡ false) (n : ℕ) (l : List ℕ) → Placed (text (pair-of a)) 0 d n l
+      → (n ≡ 0 → writing (Refused ShortBuffer) l ≡ write a d) × ((n ≡ 0 → ⊥) → writing (Length n) l ≡ write a d)
+  unfolding write given leaving in-room place text
+  written e n l p = go (leb (0 + length t) (length d)) refl (p .is)
+    where
+      t : List ℕ
+      t = text (pair-of a)
 
-    pub written : {n : ℕ} {l : List ℕ} → leb (length (text (pair-of a))) (length d) ≡ true → Fitting (text (pair-of a)) 0 d n l → writing (Length n) l ≡ write a d
-    unfolding write given leaving in-room
-    written f w =
-        let t = text (pair-of a) in
-        let h = leb-true (length t) (length d) f in
-        let v = w (omega arith) in
-        rw (e, f) (ap₂ (λ n l. record { answer = value n; buffer = l }) (v .next-is ∙ zero-add (length t)) (v .buffer-is ∙ put-front t d))
+      go : (b : Bool) → leb (0 + length t) (length d) ≡ b → placement n l ≡ cond b (placement (0 + length t) (put t 0 d)) (placement 0 d)
+          → (n ≡ 0 → writing (Refused ShortBuffer) l ≡ write a d) × ((n ≡ 0 → ⊥) → writing (Length n) l ≡ write a d)
+      go true f q =
+          let m : n ≡ length t = ap (λ x. x .next) q ∙ zero-add (length t) in
+          let k : l ≡ over t d = ap (λ x. x .buffer) q ∙ put-front t d in
+          let g : leb (length t) (length d) ≡ true = ap (λ x. leb x (length d)) (sym (zero-add (length t))) ∙ f in
+          (λ z. absurd (omega (arith, m)), λ z. rw (e, g) (ap₂ (λ n l. record { answer = value n; buffer = l }) m k))
+      go false f q =
+          let m : n ≡ 0 = ap (λ x. x .next) q in
+          let k : l ≡ d = ap (λ x. x .buffer) q in
+          let g : leb (length t) (length d) ≡ false = ap (λ x. leb x (length d)) (sym (zero-add (length t))) ∙ f in
+          (λ z. rw (e, g, k), λ z. absurd (z m))
 
 -- how long the text of an end is, from its sign and its whole part
 pub end-parts-length : (e : ℤ) (m : Bool) (n s w : ℕ) → m ≡ ltZ e (pos 0) → n ≡ natAbs e → s ≡ cond m 1 0 → w ≡ width (n / 1000) → s + w + 4 ≡ length (end-text e)

@@ -237,6 +237,10 @@ pub got-pair : (s : Outcome Pair) (a : Interval) → built s ≡ value a → s �
 got-pair (value p) a e = let g : interval p ≡ a = cc in ap (λ (a : Interval). value (pair-of a)) g
 got-pair (refusal n) a e = let z : _≡_ {A = ℕ} 0 1 = cc in absurd (omega arith)
 
+pub got-refusal : (s : Outcome Pair) (k : ℕ) → built s ≡ refusal k → s ≡ refusal k
+got-refusal (value p) k e = let z : _≡_ {A = ℕ} 0 1 = cc in absurd (omega arith)
+got-refusal (refusal n) k e = let m : n ≡ k = cc in ap refusal m
+
 -- a printed pair reads back as the same pair
 pub returned-reads-back : (a : Interval) (d l : List ℕ) (w : Written) (n : ℕ) (o : Answer) → writing w l ≡ write a d → w ≡ Length n → outcome o ≡ built (read (take n l))
     → outcome o ≡ value (interval (pair-of a))

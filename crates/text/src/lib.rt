@@ -5,8 +5,10 @@ use directed::Interval;
 ghost use mathlib.Core.Path.{_≡_};
 ghost use lib.Dec.{leb};
 ghost use lib.ListN.{length};
+ghost use Rattle.decimal.specs.Place.{Placed};
 ghost use Rattle.decimal.specs.PlaceLaws.{Fitting};
 ghost use Rattle.directed.specs.Thousandths.{pair};
+ghost use Rattle.directed.specs.Lift.{pair-of};
 ghost use Rattle.directed.specs.Answer.{outcome, built};
 ghost use Rattle.text.specs.Text.{text};
 ghost use Rattle.text.specs.Answer.{read, line-front, write, writing};
@@ -84,17 +86,28 @@ fn put_interval(lower: i32, upper: i32, buffer: &mut [u8]) -> usize
     decimal::put_byte(b']', closing, buffer)
 }
 
-// The text of an interval over the front of a buffer: refused with 2 if the interval is faulty, with 3 if the buffer is too short.
+// The text of an interval over the front of a buffer, and its length: 0 where it finds no room, and nothing is written then. Nothing is judged.
+pub fn put(a: Interval, buffer: &mut [u8]) -> usize
+    ensures { λ r. ⌜ Placed (text (pair-of a)) 0 (now (buffer .entry)) r (now (buffer .exit)) ⌝ }
+{
+    let lower = a.lower;
+    let upper = a.upper;
+    if !has_room(lower, upper, buffer.len()) {
+        return 0;
+    }
+    put_interval(lower, upper, buffer)
+}
+
+// The same, refused with 2 if the interval is faulty, with 3 if the buffer is too short.
 pub fn write(a: Interval, buffer: &mut [u8]) -> Written
     ensures { λ r. ⌜ writing r (now (buffer .exit)) ≡ write a (now (buffer .entry)) ⌝ }
 {
     if a.is_faulty() {
         return Written::Refused(Cause::EndBeyondRange);
     }
-    let lower = a.lower;
-    let upper = a.upper;
-    if !has_room(lower, upper, buffer.len()) {
+    let n = put(a, buffer);
+    if n == 0 {
         return Written::Refused(Cause::ShortBuffer);
     }
-    Written::Length(put_interval(lower, upper, buffer))
+    Written::Length(n)
 }
