@@ -13,7 +13,7 @@ use Rattle.directed.specs.Answer as answers
 use Rattle.directed.specs.Answer.{Outcome, built}
 use Rattle.lists.specs.Lists as results
 use Rattle.lists.specs.Lists.{Result, value, refusal}
-use Rattle.lists.specs.Results.{value-refusal}
+use Rattle.directed.specs.ResultLaws.{value-refusal}
 use Rattle.text.specs.Answer.{Writing}
 use Rattle.capi.specs.Effect.{Effect, effect, done, paired, paired-result, effect-of, stepless, with-step, length-effect, length-effect-of, writing-effect, writing-effect-of}
 

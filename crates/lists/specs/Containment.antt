@@ -9,7 +9,7 @@ use Rattle.directed.specs.Tightest.{Toward}
 use Rattle.directed_laws.specs.Isotone.{unary-isotone, binary-isotone}
 use Rattle.directed_laws.specs.Rounding.{toward-refl, toward-tightest}
 use Rattle.lists.specs.Lists.{value, Expression, read, evaluated, answer}
-use Rattle.lists.specs.Results.{came}
+use Rattle.directed.specs.ResultLaws.{came}
 use Rattle.lists.specs.ExactValue.{exact-value, Divisible}
 use Rattle.lists.specs.Values.{Valued, of-constant, of-one, of-two, valued}
 

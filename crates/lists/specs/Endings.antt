@@ -10,7 +10,7 @@ use Rattle.directed.specs.Answer.{Outcome}
 use Rattle.lists.specs.declared.Step.{Step}
 use Rattle.lists.specs.Steps.{code-of, follows}
 use Rattle.lists.specs.Lists.{Result, value, refusal, at, after, admitted, Expression, stepped, at-end, read}
-use Rattle.lists.specs.Results.{value-refusal}
+use Rattle.directed.specs.ResultLaws.{value-refusal}
 use Rattle.lists.specs.Causes.{Admitted, admitted-holds, admitted-is}
 
 -- Steps 0 to k − 1 are passed, none of them with a cause: the expressions ts wait, and the bytes r are left.

@@ -9,7 +9,7 @@ use Rattle.directed.specs.Answer as answers
 use Rattle.lists.specs.declared.Step.{Step}
 use Rattle.lists.specs.declared.Code.{Code}
 use Rattle.lists.specs.Lists.{value, Expression, read, evaluated, answer}
-use Rattle.lists.specs.Results.{came}
+use Rattle.directed.specs.ResultLaws.{came}
 use Rattle.lists.specs.Causes.{Admitted, no-cause}
 use Rattle.lists.specs.Endings.{Passed, none, next, done, ending-is, whole}
 

@@ -12,6 +12,7 @@ use Rattle.directed.specs.Choice.{if_then_else_}
 use Rattle.directed.specs.Thousandths.{Pair, under}
 use Rattle.directed.specs.Lift.{interval}
 use Rattle.directed.specs.Answer as answers
+pub use Rattle.directed.specs.Result.{Result, value, refusal, at, after}
 use Rattle.directed.specs.Answer.{number, Outcome, Judgement, sound, cause, unless, unjudged-unary, unjudged-binary}
 use Rattle.lists.specs.declared.Step.{Step}
 use Rattle.lists.specs.declared.Step.the-variants.{Constant, One, Two}
@@ -22,10 +23,6 @@ use Rattle.lists.specs.declared.ListAnswer.the-variants.{Value, Refused}
 use Rattle.lists.specs.Steps.{code-of, takes, leaves, follows, is-beyond, constant-in}
 
 -- an answer in 01's terms: a value, or a number with "the step", or with the "count of steps read"
-pub data Result (A : Type 0) : Type 0 where
-  value : A → Result A
-  refusal : ℕ → ℕ → Result A
-
 abbrev pub outcome : ListAnswer → Result Interval
 outcome (Value a) = value a
 outcome (Refused c k) = refusal (number c) k
@@ -34,16 +31,6 @@ outcome (Refused c k) = refusal (number c) k
 abbrev pub built : Result Pair → Result Interval
 built (value p) = value (interval p)
 built (refusal n k) = refusal n k
-
--- an outcome at its step
-abbrev pub at : {A : Type 0} → ℕ → Outcome A → Result A
-at k (answers.value a) = value a
-at k (answers.refusal n) = refusal n k
-
--- what is refused before decides
-abbrev pub after : {A B : Type 0} → Result A → (A → Result B) → Result B
-after (value a) next = next a
-after (refusal n k) next = refusal n k
 
 -- ---- the causes at one step
 -- "A list: for each step in turn 10, 6, 7, 2, 8, 9": those of a known step behind 6, where `waiting` values wait, at most `values` may, and

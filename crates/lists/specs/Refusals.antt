@@ -17,7 +17,7 @@ use Rattle.directed.specs.Answer.{Outcome, Judgement, sound, cause, unless, sto
 use Rattle.directed_laws.specs.Answer.{refusal-value}
 use Rattle.directed_laws.specs.Operations.{stop-5}
 use Rattle.lists.specs.Lists.{Result, value, refusal, at, after, Expression, constant, one, two, read, evaluated, answer}
-use Rattle.lists.specs.Results.{value-refusal}
+use Rattle.directed.specs.ResultLaws.{value-refusal}
 use Rattle.lists.specs.Endings.{Ending, ends, ending-is}
 use Rattle.lists.specs.Ways.{Wanted, wanted, wants}
 

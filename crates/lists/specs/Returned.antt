@@ -13,7 +13,7 @@ use Rattle.directed_laws.specs.Exchange.{turned}
 use Rattle.lists.specs.declared.ListAnswer.{ListAnswer}
 use Rattle.lists.specs.declared.ListAnswer.the-variants.{Value}
 use Rattle.lists.specs.Lists.{Result, value, refusal, outcome, built, Expression, read, answer}
-use Rattle.lists.specs.Results.{value-refusal}
+use Rattle.directed.specs.ResultLaws.{value-refusal}
 use Rattle.lists.specs.ExactValue.{exact-value, Divisible}
 use Rattle.lists.specs.Containment.{Accepted, accepted}
 use Rattle.lists.specs.Exchange.{exchange, exchanged, answer-exchange}

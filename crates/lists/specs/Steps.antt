@@ -2,13 +2,12 @@
 use mathlib.Core.Path.{_≡_, refl}
 use mathlib.Core.Bool.{Bool, false}
 use mathlib.Core.List.{List, [], _∷_, map}
-use Prim.Native.Nat.{ℕ, _+_, _*_}
+use Prim.Native.Nat.{ℕ}
 use lib.ListN.{getD}
-use mir.Syntax.{w32}
-use mir.Val.{toZ}
 use Rattle.directed.specs.declared.Unary.the-variants.{Negation, Opposite, Dual}
 use Rattle.directed.specs.declared.Binary.the-variants.{Sum, Difference, Product, Quotient, Join, Meet}
 use Rattle.directed.specs.Thousandths.{Pair, pair, beyond-range}
+use Rattle.words.specs.Word.{signed-at}
 use Rattle.lists.specs.declared.Step.{Step}
 use Rattle.lists.specs.declared.Step.the-variants.{Constant, One, Two}
 use Rattle.lists.specs.declared.Code.{Code}
@@ -43,16 +42,9 @@ follows Constant = 8
 follows (One f) = 0
 follows (Two g) = 0
 
--- "low byte first"
-abbrev pub word : ℕ → ℕ → ℕ → ℕ → ℕ
-word a b c d = a + b * 256 + c * 65536 + d * 16777216
-
-abbrev pub word-at : List ℕ → ℕ → ℕ
-word-at s i = word (getD s i 0) (getD s (i + 1) 0) (getD s (i + 2) 0) (getD s (i + 3) 0)
-
--- "l then u, 32-bit two's complement"
+-- "l then u, 32-bit two's complement, low byte first"
 unfoldable pub constant-in : List ℕ → Pair
-constant-in s = pair (toZ w32 (word-at s 0)) (toZ w32 (word-at s 4))
+constant-in s = pair (signed-at s 0) (signed-at s 4)
 
 -- 2: "a given end beyond the range"
 abbrev pub is-beyond : Step → List ℕ → Bool

@@ -19,7 +19,7 @@ use Rattle.directed_laws.specs.Rounding.{rounded-tightest, tightest-unique}
 use Rattle.directed_laws.specs.Thousandths.{unary-rounded}
 use Rattle.directed_laws.specs.Operations.{unary-made, binary-made}
 use Rattle.lists.specs.Lists.{value, at, after, Expression, constant, one, two, evaluated}
-use Rattle.lists.specs.Results.{at-value, came}
+use Rattle.directed.specs.ResultLaws.{at-value, came}
 use Rattle.lists.specs.Ways.{Wanted, wanted, wants}
 
 -- p is the value of an expression whose last step is wanted in the way w: of each step, in the way it is wanted, the tightest pair around, or the

@@ -6,7 +6,7 @@ use Prim.Native.Nat.{ℕ, zero, suc, _≤_, _<_}
 use native.Mathlib.Omega.{arith}
 use Rattle.directed.specs.declared.Rounding.{Rounding}
 use Rattle.lists.specs.Lists.{Result, refusal, Expression, answer}
-use Rattle.lists.specs.Results.{value-refusal}
+use Rattle.directed.specs.ResultLaws.{value-refusal}
 use Rattle.lists.specs.Endings.{Ending, too-long, stopped, not-one, done, passed-within, ending-is}
 use Rattle.lists.specs.Ways.{numbers, up-to, used-once}
 use Rattle.lists.specs.Refusals.{Blame, zero-divisor, beyond-one, beyond-two, in-one, in-first, in-second, Refusal, reading, evaluating, refusal-exactly}

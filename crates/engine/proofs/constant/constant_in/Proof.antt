@@ -11,7 +11,7 @@ unfolding constant-in
 returns c =
     let u = c .before in
     let l = u .before in
-    rw (got w32 (l .end-at .ok) (l .end-at .ensures), got w32 (u .end-at2 .ok) (u .end-at2 .ensures)) at (c .new .ensures)
+    rw (got w32 (l .read-i32 .ok) (l .read-i32 .ensures), got w32 (u .read-i322 .ok) (u .read-i322 .ensures)) at (c .new .ensures)
 
 pub constant-in-spec : {M : Type 1} → statement M
 constant-in-spec = tie.close (tie.spec (λ c κs. search needs) (λ c κs. search needs) (λ c κs. search needs) returns)

@@ -2,9 +2,9 @@
 use mathlib.Core.Path.{_≡_, refl, sym}
 use Prim.Native.Nat.{ℕ}
 use native.Mathlib.Omega.{arith}
 use Rattle.directed.specs.Answer as answers
 use Rattle.directed.specs.Answer.{Outcome}
-use Rattle.lists.specs.Lists.{Result, value, refusal, at, after}
+use Rattle.directed.specs.Result.{Result, value, refusal, at, after}
 
 pub value-refusal : {A : Type 0} {a : A} {n k : ℕ} → value a ≡ refusal n k → ⊥
 value-refusal e = let z : _≡_ {A = ℕ} 0 1 = cc in omega arith
