@@ -22,8 +22,7 @@ use Rattle.lists.specs.declared.Step.the-variants.{Constant, One, Two}
 use Rattle.lists.specs.Steps.{takes}
 use Rattle.lists.specs.Ways.{turning}
 use Rattle.lists.specs.Lists.{built, Result, value, refusal, Expression, constant, one, two, stepped, at, after, evaluated}
-use Rattle.engine.specs.declared.program.Instruction.{Instruction}
-use Rattle.engine.specs.Program.{Draft, draft, instruction, no-constant, turned-at, added}
+use Rattle.engine.specs.Program.{Instruction, Draft, draft, instruction, no-constant, step-constant, turned-at, added}
 use Rattle.engine.specs.Machine.{way-after, ran, Fits, end, step}
 
 -- ---- the program of an expression
@@ -64,7 +63,7 @@ all-starts [] = []
 all-starts (t ∷ ts) = all-size ts ∷ all-starts ts
 
 abbrev pub compiled : List Expression → Draft
-compiled ts = draft (all-size ts) (all-flat ts) (all-turns ts) (all-starts ts)
+compiled ts = draft (all-size ts) (all-turns ts) (all-starts ts)
 
 pub starts-length : (ts : List Expression) → length (all-starts ts) ≡ length ts
 starts-length [] = refl
@@ -106,23 +105,38 @@ turned-seam ts true ys = rw (← all-turns-length ts) (turned-first (all-turns t
 turned-seam ts false ys = refl
 
 pub added-compiled : (k : ℕ) (s : Step) (r : List ℕ) (ts : List Expression) → takes s ≤ length ts
-    → added s r (compiled ts) ≡ compiled (stepped k s r ts)
-unfolding size flat turns
+    → added s (compiled ts) ≡ compiled (stepped k s r ts)
+unfolding size turns
 added-compiled k Constant r ts h = refl
 added-compiled k (One f) r [] h = absurd (omega arith)
 added-compiled k (One f) r (a ∷ ts) h =
     let e : all-size ts + size a + 1 ≡ all-size ts + (size a + 1) = omega arith in
-    rw (
-      e,
-      append-assoc (all-flat ts) (flat a),
-      turned-seam ts (turning f) (turns a),
-      append-assoc (all-turns ts) (if turning f then turn-first (turns a) else turns a),
-    )
+    rw (e, turned-seam ts (turning f) (turns a), append-assoc (all-turns ts) (if turning f then turn-first (turns a) else turns a))
 added-compiled k (Two g) r [] h = absurd (omega arith)
 added-compiled k (Two g) r (b ∷ []) h = absurd (omega arith)
 added-compiled k (Two g) r (b ∷ a ∷ ts) h =
     let e : all-size ts + size a + size b + 1 ≡ all-size ts + (size a + (size b + 1)) = omega arith in
     rw e (simp append-assoc)
+
+pub flat-stepped : (k : ℕ) (s : Step) (r : List ℕ) (ts : List Expression) → takes s ≤ length ts
+    → all-flat (stepped k s r ts) ≡ all-flat ts ++ (instruction s (step-constant s r) ∷ [])
+unfolding flat
+flat-stepped k Constant r ts h = refl
+flat-stepped k (One f) r [] h = absurd (omega arith)
+flat-stepped k (One f) r (a ∷ ts) h = rw (append-assoc (all-flat ts) (flat a))
+flat-stepped k (Two g) r [] h = absurd (omega arith)
+flat-stepped k (Two g) r (b ∷ []) h = absurd (omega arith)
+flat-stepped k (Two g) r (b ∷ a ∷ ts) h = simp append-assoc
+
+flat-length : (t : Expression) → length (flat t) ≡ size t
+unfolding flat size
+flat-length (constant k p) = refl
+flat-length (one k f a) = simp length-append (omega (arith, flat-length a))
+flat-length (two k g a b) = simp length-append (omega (arith, flat-length a, flat-length b))
+
+pub all-flat-length : (ts : List Expression) → length (all-flat ts) ≡ all-size ts
+all-flat-length [] = refl
+all-flat-length (t ∷ ts) = simp length-append (omega (arith, all-flat-length ts, flat-length t))
 
 -- ---- the steps' numbers
 abbrev pub Numbered : ℕ → Expression → Type 0

@@ -13,12 +13,7 @@ use Rattle.lists.specs.declared.Step.{Step}
 use Rattle.lists.specs.declared.Step.the-variants.{Constant, One, Two}
 use Rattle.lists.specs.Steps.{takes}
 use Rattle.lists.specs.Lists.{Result, value, at, after}
-use Rattle.engine.specs.declared.program.Instruction.{Instruction}
-use Rattle.engine.specs.declared.machine.Stack.{Stack}
-use Rattle.engine.specs.Program.{tops, no-constant}
-
-abbrev pub values-of : Stack → List Interval
-values-of st = tops no-constant (st .depth) (st .items)
+use Rattle.engine.specs.Program.{Instruction, no-constant}
 
 -- a step on the values that wait, the latest first
 abbrev pub step-outcome : Rounding → Step → Interval → List Interval → answers.Outcome Interval
@@ -28,6 +23,18 @@ step-outcome w (One f) p (x ∷ xs) = answers.built (answers.unjudged-unary f (p
 step-outcome w (Two g) p [] = answers.value p
 step-outcome w (Two g) p (y ∷ []) = answers.value p
 step-outcome w (Two g) p (y ∷ x ∷ xs) = answers.built (answers.unjudged-binary w g (pair-of x) (pair-of y))
+
+-- the same where the values that it takes are a and b, or a alone
+abbrev pub taken-outcome : Rounding → Step → Interval → Interval → Interval → answers.Outcome Interval
+taken-outcome w Constant p a b = answers.value p
+taken-outcome w (One f) p a b = answers.built (answers.unjudged-unary f (pair-of a))
+taken-outcome w (Two g) p a b = answers.built (answers.unjudged-binary w g (pair-of a) (pair-of b))
+
+-- where the last of them stands, if the first stands at n
+abbrev pub last-taken : Step → ℕ → ℕ
+last-taken Constant n = n
+last-taken (One f) n = n
+last-taken (Two g) n = n + 1
 
 abbrev pub way-after : Bool → Rounding → Rounding
 way-after m w = if m then other-way w else w

@@ -1,4 +1,4 @@
--- A program in lists: the steps in order, at which of them the way turns, and where each waiting expression starts.
+-- A list as a program: its steps in order, at which of them the way turns, and where each waiting expression starts.
 use mathlib.Core.Bool.{Bool, false, not}
 use mathlib.Core.List.{List, [], _∷_, _++_}
 use Prim.Native.Nat.{ℕ, zero, suc, _+_}
@@ -10,9 +10,10 @@ use Rattle.directed.specs.Thousandths.{pair}
 use Rattle.directed.specs.Lift.{interval}
 use Rattle.lists.specs.declared.Step.{Step}
 use Rattle.lists.specs.declared.Step.the-variants.{Constant, One, Two}
-use Rattle.lists.specs.Steps.{constant-in}
+use Rattle.lists.specs.declared.Code.{Code}
+use Rattle.lists.specs.declared.Code.the-variants.{Known, Unknown}
+use Rattle.lists.specs.Steps.{code-of, follows, constant-in}
 use Rattle.lists.specs.Ways.{turning}
-use Rattle.engine.specs.declared.program.Instruction.{Instruction}
 use Rattle.engine.specs.declared.program.Program.{Program}
 
 -- the first n entries, the last of them first
@@ -20,7 +21,11 @@ abbrev pub tops : {A : Type 0} → A → ℕ → List A → List A
 tops d zero items = []
 tops d (suc n) items = getD items n d ∷ tops d n items
 
--- ---- a step
+-- ---- a step, and its value where it is a constant
+pub record Instruction : Type 0 where
+  pub step : Step
+  pub constant : Interval
+
 abbrev pub instruction : Step → Interval → Instruction
 instruction s p = record { step = s; constant = p }
 
@@ -45,28 +50,43 @@ step-constant Constant rest = interval (constant-in rest)
 step-constant (One f) rest = no-constant
 step-constant (Two g) rest = no-constant
 
--- ---- a program
-abbrev pub instructions-of : Program → List Instruction
-instructions-of p = take (p .count) (p .instructions)
+-- ---- the steps of a list
+-- the step of a code; of an unknown one it is never asked
+abbrev pub known : Code → Step
+known (Known s) = s
+known Unknown = Constant
 
+-- the first n, and the bytes behind them
+unfoldable pub steps-in : ℕ → List ℕ → List Instruction
+steps-in zero s = []
+steps-in (suc n) [] = []
+steps-in (suc n) (byte ∷ rest) =
+    let s : Step = known (code-of byte) in
+    instruction s (step-constant s rest) ∷ steps-in n (drop (follows s) rest)
+
+unfoldable pub behind-steps : ℕ → List ℕ → List ℕ
+behind-steps zero s = s
+behind-steps (suc n) [] = []
+behind-steps (suc n) (byte ∷ rest) = behind-steps n (drop (follows (known (code-of byte))) rest)
+
+-- ---- where the way turns
 abbrev pub turns-of : Program → List Bool
 turns-of p = take (p .count) (p .turns)
 
--- while it is made: also the first step of each waiting expression, the latest first
+-- while it is found: also how many steps are read, and the first step of each waiting expression, the latest first
 pub record Draft : Type 0 where
   pub count : ℕ
-  pub instructions : List Instruction
   pub turns : List Bool
   pub starts : List ℕ
 
-abbrev pub draft : ℕ → List Instruction → List Bool → List ℕ → Draft
-draft n is ms ss = record { count = n; instructions = is; turns = ms; starts = ss }
+abbrev pub draft : ℕ → List Bool → List ℕ → Draft
+draft n ms ss = record { count = n; turns = ms; starts = ss }
 
 abbrev pub made : Program → ℕ → List ℕ → Draft
-made p waiting starts = draft (p .count) (instructions-of p) (turns-of p) (tops 0 waiting starts)
+made p waiting starts = draft (p .count) (turns-of p) (tops 0 waiting starts)
 
 abbrev pub empty : Draft
-empty = draft 0 [] [] []
+empty = draft 0 [] []
 
 abbrev pub turned-at : ℕ → List Bool → List Bool
 turned-at n ms = set ms n (not (getD ms n false))
@@ -77,8 +97,7 @@ step-starts (One f) k ss = ss
 step-starts (Two g) k ss = drop 1 ss
 
 -- a step more: where it turns, the way changes at the first step of what it is applied to, and back at the step itself
-abbrev pub added : Step → List ℕ → Draft → Draft
-added s rest c =
-    draft (c .count + 1) (c .instructions ++ (instruction s (step-constant s rest) ∷ []))
-    ((if step-turns s then turned-at (getD (c .starts) 0 0) (c .turns) else c .turns) ++ (step-turns s ∷ []))
+abbrev pub added : Step → Draft → Draft
+added s c =
+    draft (c .count + 1) ((if step-turns s then turned-at (getD (c .starts) 0 0) (c .turns) else c .turns) ++ (step-turns s ∷ []))
     (step-starts s (c .count) (c .starts))

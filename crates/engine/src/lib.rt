@@ -1,5 +1,5 @@
-// Lists of steps: the engine. In which way a step is wanted depends on the steps behind it, so a list is first decoded and judged, into a
-// program that tells where the way turns; then the program is run, each step once and in its one way.
+// Lists of steps: the engine. In which way a step is wanted depends on the steps behind it, so a list is first judged, and it is
+// found where the way turns; then it is run, each step once and in its one way.
 ghost use mathlib.Core.Path.{_≡_};
 ghost use Prim.Native.Nat.{_≤_};
 ghost use Rattle.lists.specs.Lists.{answer, outcome, built};
@@ -21,7 +21,7 @@ fn evaluate_within(list: &[u8], rounding: Rounding, values: usize, steps: usize)
     let verdict = decoded.verdict;
     let program = decoded.program;
     match verdict {
-        decode::Verdict::Sound => machine::run(program, rounding),
+        decode::Verdict::Sound => machine::run(list, program, rounding),
         decode::Verdict::Refused(cause) => ListAnswer::Refused {
             cause,
             at: program.count,

@@ -1,4 +1,4 @@
--- A refusal is the one that reading comes to, and a program gives the list's answer.
+-- A refusal is the one that reading comes to, and the run gives the list's answer.
 use mathlib.Core.Path.{_≡_, _∙_}
 use mathlib.Core.Bool.{Bool}
 use mathlib.Core.List.{List, []}
@@ -6,21 +6,21 @@ use Prim.Native.Nat.{ℕ}
 use Rattle.directed.specs.declared.Rounding.{Rounding}
 use Rattle.directed.specs.Answer.{sound, cause}
 use Rattle.lists.specs.Lists.{built, refusal, answer}
-use Rattle.engine.specs.declared.program.Instruction.{Instruction}
+use Rattle.engine.specs.Program.{steps-in}
 use Rattle.engine.specs.Machine.{ran}
 use Rattle.engine.specs.Decode.{Decodes, refuses, gives, Runs}
 use borrow.Author.Needs.{needs}
 use Rattle.engine.proofs.evaluate_within.Statement.{statement}
 use Rattle.engine.proofs.evaluate_within.Tie as tie
 
-module _ {v steps n : ℕ} {s : List ℕ} {is : List Instruction} {ms : List Bool} where
-  sound-runs : Decodes v steps s n is ms sound → Runs n is
+module _ {v steps n : ℕ} {s : List ℕ} {ms : List Bool} where
+  sound-runs : Decodes v steps s n ms sound → Runs n (steps-in n s)
   sound-runs (gives r e) = r
 
-  sound-answers : Decodes v steps s n is ms sound → (w : Rounding) → ran 0 w is ms [] ≡ built (answer v steps w s)
+  sound-answers : Decodes v steps s n ms sound → (w : Rounding) → ran 0 w (steps-in n s) ms [] ≡ built (answer v steps w s)
   sound-answers (gives r e) w = e w
 
-  cause-answers : {k : ℕ} → Decodes v steps s n is ms (cause k) → (w : Rounding) → refusal k n ≡ built (answer v steps w s)
+  cause-answers : {k : ℕ} → Decodes v steps s n ms (cause k) → (w : Rounding) → refusal k n ≡ built (answer v steps w s)
   unfolding answer
   cause-answers (refuses e) w = rw e
 

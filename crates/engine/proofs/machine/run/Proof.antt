@@ -1,93 +1,124 @@
 -- Each turn keeps what the rest gives.
 use borrow.Author.Needs.{needs}
-use mathlib.Core.Path.{_≡_, refl, sym, _∙_}
+use mathlib.Core.Path.{_≡_, refl, sym, ap, ap₂, _∙_}
 use mathlib.Core.Bool.{false}
-use mathlib.Core.List.{[]}
+use mathlib.Core.List.{List, []}
 use Prim.Native.Nat.{ℕ, _+_, _-_, _≤_, _<_}
 use native.Mathlib.Omega.{arith}
-use lib.ListN.{length, drop, getD, length-map}
-use Rattle.engine.specs.declared.program.Instruction.{Instruction}
-use Rattle.engine.specs.Program.{instructions-of, turns-of}
-use Rattle.engine.specs.Machine.{values-of, way-after, ran}
-use Rattle.engine.proofs.Running.{Going, Next, next, going-put, going-end}
+use lib.ListN.{length, drop, getD, length-set}
+use Rattle.directed.specs.Answer as answers
+use Rattle.lists.specs.declared.Step.{Step}
+use Rattle.lists.specs.Steps.{takes, follows}
+use Rattle.lists.specs.Walk.{behind}
+use Rattle.engine.specs.Program.{tops, instruction, no-constant, step-constant, steps-in, turns-of}
+use Rattle.engine.specs.Machine.{step-outcome, way-after, ran, last-taken}
+use Rattle.engine.proofs.Running.{step-at, Next, Stands, stands-first, stands-inside, stands-end, stands-next, stands-turn, follows-most, last-within, takes-told}
 use Rattle.engine.proofs.machine.run.Statement.{statement}
 use Rattle.engine.proofs.machine.run.Tie as tie
 
 abbrev Inv-loop : tie.InvT-loop
-Inv-loop program count way₀ stack₀ k₀ way stack k =
-    (k ≤ count) × (stack .depth ≤ 16)
-    × Going k (stack .depth) way (drop k (instructions-of program)) (drop k (turns-of program)) (values-of stack) (ran 0 way₀ (instructions-of program) (turns-of program) [])
+Inv-loop list program count way₀ items₀ depth₀ at₀ k₀ way items depth at k =
+    (k ≤ count) × (depth ≤ 16) × (length items ≡ 16) × Stands list count (program .turns) k at depth way items (ran 0 way₀ (steps-in count list) (turns-of program) [])
 
 abbrev μ-loop : tie.MeasureT-loop
-μ-loop program count way₀ stack₀ k₀ way stack k = count - k
-
-sizes : (c : tie.Start Inv-loop μ-loop) → (c .args .t1 .count ≤ length (c .args .t1 .instructions)) × (c .args .t1 .count ≤ length (c .args .t1 .turns))
-sizes c =
-    let e : length (c .args .t1 .instructions) ≡ 64 = sym (length-map (c .args .t1 .instructions) _) ∙ c .good .0 .1 .1 .0 .1 .0 .1 in
-    let f : length (c .args .t1 .turns) ≡ 64 = search needs in
-    (omega (arith, c .pre .steps), omega (arith, c .pre .steps))
+μ-loop list program count way₀ items₀ depth₀ at₀ k₀ way items depth at k = count - k
 
 -- ---- the places of the code
 abbrev start-at : tie.In-loop Inv-loop μ-loop → tie.Start Inv-loop μ-loop
 start-at c = c .before .before .before
 
-abbrev loop-at : tie.After-turned Inv-loop μ-loop → tie.In-loop Inv-loop μ-loop
+abbrev loop-at : tie.After-taken Inv-loop μ-loop → tie.In-loop Inv-loop μ-loop
 loop-at c = c .before .before .before
 
-abbrev turned-at : tie.After-struct-known Inv-loop μ-loop → tie.After-turned Inv-loop μ-loop
-turned-at c = c .before .before .before .before .before .before
+turns-long : (c : tie.Start Inv-loop μ-loop) → c .args .t2 .count ≤ length (c .args .t2 .turns)
+turns-long c =
+    let e : length (c .args .t2 .turns) ≡ 64 = search needs in
+    omega (arith, c .pre .steps)
 
--- ---- the step that is next, whatever an array is read as where it has no entry
-abbrev NextAt : tie.In-loop Inv-loop μ-loop → Instruction → Type 0
-NextAt c none =
-    let s = start-at c .args in
-    let p = s .t1 in
-    let l = c .before .loop in
-    Next (l .k) (l .stack .depth) (way-after (getD (p .turns) (l .k) false) (l .way)) (getD (p .instructions) (l .k) none) (drop (l .k + 1) (instructions-of p))
-    (drop (l .k + 1) (turns-of p)) (values-of (l .stack)) (ran 0 (s .rounding) (instructions-of p) (turns-of p) [])
+inside : (c : tie.In-loop Inv-loop μ-loop) → c .before .loop .at < length (start-at c .args .list .now)
+inside c = stands-inside (c .before .loop .inv .3) (c .loop-test .taken)
 
-next-at : (c : tie.In-loop Inv-loop μ-loop) (none : Instruction) → NextAt c none
-next-at c none =
-    let p = start-at c .args .t1 in
-    let l = c .before .loop in
-    let z = sizes (start-at c) in
-    next (p .count) (l .k) (p .instructions) (p .turns) (z .0) (z .1) _ _ _ _ (l .inv .2) none (omega arith)
-
-below : (d t : ℕ) → d - t + 1 ≤ 16 → d - t < 16
-below d t h = omega arith
-
--- ---- the needs
 loop-holds : tie.Need-loop-holds Inv-loop μ-loop
-loop-holds c = rw (c .new .ensures) (omega arith, omega arith, record { fits = c .before .pre .values; rest = refl })
+loop-holds c = let s = c .before in (omega arith, omega arith, refl, stands-first _ _ _ _ _ (s .pre .all) (s .pre .values))
+
+-- ---- the step that is next
+module _ (c : tie.After-taken Inv-loop μ-loop) where
+  abbrev list-of : List ℕ
+  list-of = start-at (loop-at c) .args .list .now
+
+  abbrev step-here : Step
+  step-here = step-at list-of (loop-at c .before .loop .at)
+
+  abbrev Next-here : Type 0
+  Next-here =
+      let s = start-at (loop-at c) .args in
+      let l = loop-at c .before .loop in
+      Next (l .k) (l .depth) (way-after (getD (s .t2 .turns) (l .k) false) (l .way)) (instruction step-here (step-constant step-here (behind list-of (l .at)))) (steps-in (s .t2 .count - (l .k + 1)) (drop (l .at + 1 + follows step-here) list-of)) (drop (l .k + 1) (turns-of (s .t2)))
+      (tops no-constant (l .depth) (l .items)) (ran 0 (s .rounding) (steps-in (s .t2 .count) list-of) (turns-of (s .t2)) [])
+
+  next-here : Next-here
+  next-here = stands-next (loop-at c .before .loop .inv .3) (loop-at c .loop-test .taken) (turns-long (start-at (loop-at c)))
+
+  takes-is : c .taken .result ≡ takes step-here
+  takes-is = c .taken .ensures ∙ ap takes (c .before .step-of .ensures)
+
+  enough : c .taken .result ≤ loop-at c .before .loop .depth
+  enough = omega (arith, takes-is, next-here .enough)
+
+  small : loop-at c .before .loop .depth - c .taken .result < 16
+  small = omega (arith, takes-is, next-here .room)
+
+last-is : (c : tie.After-last-taken Inv-loop μ-loop) → c .last-taken .result ≡ last-taken (step-here (c .before)) (loop-at (c .before) .before .loop .depth - takes (step-here (c .before)))
+last-is c = c .last-taken .ensures ∙ ap₂ (λ x m. last-taken x (loop-at (c .before) .before .loop .depth - m)) (c .before .before .step-of .ensures) (takes-is (c .before))
+
+last-small : (c : tie.After-last-taken Inv-loop μ-loop) → c .last-taken .result < 16
+last-small c = rw (last-is c) (last-within (step-here (c .before)) _ (next-here (c .before) .enough) (loop-at (c .before) .before .loop .inv .1) (next-here (c .before) .room))
+
+-- its answer
+abbrev taken-at : tie.After-step-answer Inv-loop μ-loop → tie.After-taken Inv-loop μ-loop
+taken-at c = c .before .before .before .before .before .before .before
+
+told : (c : tie.After-step-answer Inv-loop μ-loop)
+    → answers.outcome (c .step-answer .result)
+    ≡ step-outcome (way-after (getD (start-at (loop-at (taken-at c)) .args .t2 .turns) (loop-at (taken-at c) .before .loop .k) false) (loop-at (taken-at c) .before .loop .way)) (step-here (taken-at c))
+    (step-constant (step-here (taken-at c)) (behind (list-of (taken-at c)) (loop-at (taken-at c) .before .loop .at))) (tops no-constant (loop-at (taken-at c) .before .loop .depth) (loop-at (taken-at c) .before .loop .items))
+told c =
+    let t = taken-at c in
+    c .step-answer .ensures
+    ∙ takes-told _ (step-here t) _ _ _ (c .before .before .before .before .turned .ensures) (t .before .step-of .ensures) (takes-is t) (last-is (c .before .before .before .before .before .before)) (next-here t .enough)
 
 returns : tie.Need-returns Inv-loop μ-loop
 returns c =
-    let f = c .before .before .before .before in
-    next-at (loop-at f) _ .refused _ (rw (c .before .answer2 .given .1, f .turned .ensures) at (c .before .before .before .step-answer .ensures))
+    let a = c .before .before .before in
+    next-here (taken-at a) .refused _ (ap answers.outcome (sym (c .before .cause .given .1)) ∙ told a)
 
 loop-again : tie.Need-loop-again Inv-loop μ-loop
 loop-again c =
-    let f = turned-at (c .before) in
     let a = c .before .before .before .before in
-    let q =
-    going-put (loop-at f .before .loop .stack .items) (next-at (loop-at f) _) _ _ (c .put .result .depth) (c .put .result .items) (c .before .before .taken .ensures)
-    (rw (a .answer .given .1, f .turned .ensures) at (a .before .before .step-answer .ensures)) (c .put .ensures) in
-    (omega arith, q .0, rw (f .turned .ensures) (q .1))
+    let t = taken-at a in
+    let l = loop-at t .before .loop in
+    let f : c .following .result ≡ follows (step-here t) = c .following .ensures ∙ ap follows (t .before .step-of .ensures) in (
+      omega arith,
+      omega (arith, small t),
+      length-set (l .items) _ _ ∙ l .inv .2,
+      stands-turn (l .inv .3) (loop-at t .loop-test .taken) (turns-long (start-at (loop-at t))) (l .inv .2) f (takes-is t) (a .before .before .before .before .turned .ensures)
+          (ap answers.outcome (sym (c .before .before .x .given .1)) ∙ told a),
+    )
 
 returns-2 : tie.Need-returns-2 Inv-loop μ-loop
 returns-2 c =
-    let s = c .before .before .before .before in
-    let p = s .args .t1 in
-    let l = c .before .before .loop in
-    let z = sizes s in
-    let e = going-end (p .count) (l .k) (p .instructions) (p .turns) (z .0) (z .1) _ _ _ _ (l .inv .2) (omega arith) in
-    rw (c .item .ensures) (rw (e .0) at (e .1))
+    let e = stands-end (c .before .before .loop .inv .3) (c .before .loop-test .left) in
+    rw (e .0) at (e .1)
 
 pub run-spec : {M : Type 1} → statement M
 run-spec =
     tie.close
-    (tie.spec Inv-loop μ-loop (λ c κs. search needs) loop-holds (λ c. search needs) (λ c. search needs) (λ c. search needs) (λ c κs. search needs)
-    (λ c κs. (next-at (loop-at c) _ .enough, omega arith)) (λ c. search needs) (λ c κs. search needs)
-    (λ c. rw (c .before .taken .ensures) (next-at (loop-at (turned-at c)) _ .enough))
-    (λ c κs. rw (c .before .taken .ensures) (below _ _ (next-at (loop-at (turned-at c)) _ .room))) (λ c. search needs) returns (λ c. search needs)
-    (λ c. search needs) loop-again (λ c κs. search needs) returns-2)
+    (tie.spec Inv-loop μ-loop loop-holds (λ c. inside (c .before)) (λ c κs. search needs) (λ c. omega (arith, inside (c .before .before))) (λ c κs. search needs)
+    enough (λ c κs. small c) (λ c. omega (arith, start-at (loop-at (c .before)) .pre .steps)) (λ c κs. search needs)
+    -- the bytes behind the code, and the values that it takes
+    (λ c. omega (arith, inside (loop-at (c .before .before .before)))) (λ c. omega (arith, inside (loop-at (c .before .before .before)))) (λ c. omega arith)
+    (λ c. record { fits = omega (arith, small (c .before .before .before .before)) }) (λ c. small (c .before .before .before .before)) (λ c. record { fits = omega (arith, last-small (c .before .before .before .before)) }) (λ c. last-small (c .before .before .before .before)) (λ c κs. search needs)
+    -- the answer is stored
+    (λ c. search needs) (λ c. record { fits = omega (arith, small (taken-at (c .before .before .before))) }) (λ c. small (taken-at (c .before .before .before))) (λ c. omega (arith, small (taken-at (c .before .before .before)))) (λ c. search needs) returns
+    -- the next turn
+    (λ c κs. search needs) (λ c. record { fits = omega (arith, inside (loop-at (taken-at (c .before .before .before .before))), c .following .ensures, follows-most (taken-at (c .before .before .before .before) .before .step-of .result)) }) (λ c. omega arith) (λ c. omega arith) loop-again (λ c. omega arith) returns-2)
