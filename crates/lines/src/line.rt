@@ -181,16 +181,8 @@ fn field_at(s: &[u8], from: usize) -> FieldRead
 }
 
 // The pairs of a line from `begin` on, and their operation.
-fn pairs(
-    s: &[u8],
-    start: usize,
-    begin: usize,
-    rounding: Rounding,
-    second: SecondField,
-    count: usize,
-) -> Lined
-    requires { ⌜ Ended-lines (now s) × (begin < length (now s)) × (start ≤ begin) ⌝ }
-    requires { ⌜ (count ≡ wanted second) × (1 ≤ count) ⌝ }
+fn pairs(s: &[u8], start: usize, begin: usize, rounding: Rounding, second: SecondField) -> Lined
+    requires { ⌜ Ended-lines (now s) × (begin < length (now s)) × (start ≤ begin) × (1 ≤ wanted second) ⌝ }
     ensures { λ r. ⌜ Answers (now (s .entry)) start begin (operate-of second rounding (fields-from (now (s .entry)) begin)) r ⌝ }
 {
     let mut al: i32 = 0;
@@ -198,7 +190,7 @@ fn pairs(
     let mut cl: i32 = 0;
     let mut cu: i32 = 0;
     let mut from = begin;
-    let mut left = count;
+    let mut left = wanted_of(second);
     loop {
         match field_at(s, from) {
             FieldRead::Found { lower, upper, end } => {
@@ -235,8 +227,7 @@ fn from_operation(s: &[u8], start: usize, from: usize, rounding: Rounding) -> Li
     ensures { λ r. ⌜ Answers (now (s .entry)) start from (operate-first rounding (fields-from (now (s .entry)) from)) r ⌝ }
 {
     let second = second_of(s[from]);
-    let count = wanted_of(second);
-    if count == 0 {
+    if wanted_of(second) == 0 {
         return refused_letter(s, start, from);
     }
     let behind = from + 1;
@@ -247,7 +238,7 @@ fn from_operation(s: &[u8], start: usize, from: usize, rounding: Rounding) -> Li
     if s[end] != b' ' {
         return malformed(end);
     }
-    pairs(s, start, end + 1, rounding, second, count)
+    pairs(s, start, end + 1, rounding, second)
 }
 
 // A line whose first field begins with none of the letters; there must be a second.

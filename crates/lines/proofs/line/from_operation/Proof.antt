@@ -42,10 +42,8 @@ pairs-requires : tie.Need-pairs-requires
 pairs-requires c κs =
     let f = c .before .before .before .before .before .before .before .before .before in
     let e = c .before .before .before .field-end in
-    let w = c .before .before .before .before .before .wanted-of in (
-      (f .pre .0, next-inside (f .pre .0) (e .result) (e .ensures .1) (λ q. omega (arith, c .if3 .left)), omega (arith, e .ensures .0)),
-      (w .ensures, omega (arith, c .before .before .before .before .if1 .left)),
-    )
+    let w = c .before .before .before .before .before .wanted-of in
+    (f .pre .0, next-inside (f .pre .0) (e .result) (e .ensures .1) (λ q. omega (arith, c .if3 .left)), omega (arith, e .ensures .0), omega (arith, w .ensures, c .before .before .before .before .if1 .left))
 
 returns-4 : tie.Need-returns-4
 returns-4 c =

@@ -19,13 +19,13 @@ use Rattle.lines.proofs.line.pairs.Statement.{statement}
 use Rattle.lines.proofs.line.pairs.Tie as tie
 
 abbrev Inv-loop : tie.InvT-loop
-Inv-loop s start begin rounding second count al₀ au₀ cl₀ cu₀ from₀ left₀ al au cl cu from left = Reading s start begin second rounding (pair (toZ w32 al) (toZ w32 au)) (pair (toZ w32 cl) (toZ w32 cu)) from left
+Inv-loop s start begin rounding second al₀ au₀ cl₀ cu₀ from₀ left₀ al au cl cu from left = Reading s start begin second rounding (pair (toZ w32 al) (toZ w32 au)) (pair (toZ w32 cl) (toZ w32 cu)) from left
 
 abbrev μ-loop : tie.MeasureT-loop
-μ-loop s start begin rounding second count al₀ au₀ cl₀ cu₀ from₀ left₀ al au cl cu from left = length s - from
+μ-loop s start begin rounding second al₀ au₀ cl₀ cu₀ from₀ left₀ al au cl cu from left = length s - from
 
 abbrev start-of : tie.At-loop Inv-loop μ-loop → tie.Start Inv-loop μ-loop
-start-of c = c .before .before
+start-of c = c .before .before .before
 
 abbrev loop-of : tie.After-lower Inv-loop μ-loop → tie.At-loop Inv-loop μ-loop
 loop-of c = c .before .before .before
@@ -61,20 +61,21 @@ here c =
 
 loop-holds : tie.Need-loop-holds Inv-loop μ-loop
 loop-holds c =
-    let f = c .before in
+    let f = c .before .before in
     let a = f .args in
+    let w = c .wanted-of .ensures in
     record {
-      inside = f .pre .0 .1;
-      behind = f .pre .0 .2;
+      inside = f .pre .1;
+      behind = f .pre .2;
       same-end = refl;
-      some = f .pre .1 .1;
-      few = omega (arith, f .pre .1 .0, wanted-most (a .second));
-      same = ap (λ (n : ℕ). remaining n (final (a .second) (a .rounding)) _ _ (fields-from (a .s .now) (a .begin))) (f .pre .1 .0)
-          ∙ remaining-all (a .second) (a .rounding) _ _ (fields-from (a .s .now) (a .begin)) (omega (arith, f .pre .1 .0, f .pre .1 .1));
+      some = omega (arith, w, f .pre .3);
+      few = omega (arith, w, wanted-most (a .second));
+      same = ap (λ (n : ℕ). remaining n (final (a .second) (a .rounding)) _ _ (fields-from (a .s .now) (a .begin))) w
+          ∙ remaining-all (a .second) (a .rounding) _ _ (fields-from (a .s .now) (a .begin)) (f .pre .3);
     }
 
 field-at-requires : tie.Need-field-at-requires Inv-loop μ-loop
-field-at-requires c κs = (start-of c .pre .0 .0, c .loop .inv .inside)
+field-at-requires c κs = (start-of c .pre .0, c .loop .inv .inside)
 
 shared-slice-read-if1 : tie.Need-shared-slice-read-if1 Inv-loop μ-loop
 shared-slice-read-if1 c = here (c .before .before) .inside
@@ -101,7 +102,7 @@ returns-2 c =
 refused-requires : tie.Need-refused-requires Inv-loop μ-loop
 refused-requires c κs =
     let l = loop-of (c .before .before .before .before) in
-    (start-of l .pre .0 .0, l .loop .inv .inside, l .loop .inv .behind)
+    (start-of l .pre .0, l .loop .inv .inside, l .loop .inv .behind)
 
 returns-3 : tie.Need-returns-3 Inv-loop μ-loop
 returns-3 c =
@@ -125,15 +126,15 @@ loop-again c =
     let l = loop-of p in
     ⊎-elim
     (λ w. rw (w .1, w .2, w .3, w .4, plain (q .narrow .lower-fits), plain (q .narrow .upper-fits))
-    (turn-second (l .loop .inv) _ _ (q .is) (q .inside) (q .reads) (c .before .before .if1 .left) (start-of l .pre .0 .0) (w .0 .taken)))
+    (turn-second (l .loop .inv) _ _ (q .is) (q .inside) (q .reads) (c .before .before .if1 .left) (start-of l .pre .0) (w .0 .taken)))
     (λ w. rw (w .1, w .2, w .3, w .4, plain (q .narrow .lower-fits), plain (q .narrow .upper-fits))
-    (turn-first (l .loop .inv) _ _ (q .is) (q .inside) (q .reads) (c .before .before .if1 .left) (start-of l .pre .0 .0) (c .before .if3 .left) (w .0 .left)))
+    (turn-first (l .loop .inv) _ _ (q .is) (q .inside) (q .reads) (c .before .before .if1 .left) (start-of l .pre .0) (c .before .if3 .left) (w .0 .left)))
     (c .if4 .came)
 
 refused-requires-2 : tie.Need-refused-requires-2 Inv-loop μ-loop
 refused-requires-2 c κs =
     let l = c .before .before .before .before in
-    (start-of l .pre .0 .0, l .loop .inv .inside, l .loop .inv .behind)
+    (start-of l .pre .0, l .loop .inv .inside, l .loop .inv .behind)
 
 returns-4 : tie.Need-returns-4 Inv-loop μ-loop
 unfolding Field-read
@@ -144,5 +145,5 @@ returns-4 c =
 pub pairs-spec : {M : Type 1} → statement M
 pairs-spec =
     tie.close
-    (tie.spec Inv-loop μ-loop loop-holds field-at-requires (λ c. search needs) shared-slice-read-if1 (λ c κs. search needs) returns (λ c κs. search needs)
+    (tie.spec Inv-loop μ-loop (λ c κs. search needs) loop-holds field-at-requires (λ c. search needs) shared-slice-read-if1 (λ c κs. search needs) returns (λ c κs. search needs)
     limited-requires returns-2 refused-requires returns-3 sub-left add-from loop-less loop-again (λ c. search needs) refused-requires-2 returns-4)
