@@ -1,4 +1,4 @@
-/* The arithmetic of pairs in plain C, an independent reading of document 01: the yardstick of the benchmarks, and no part of the product. */
+/* The arithmetic of pairs and their text in plain C, an independent reading of document 01: the yardstick of the benchmarks, and no part of the product. */
 #ifndef PAIRS_H
 #define PAIRS_H
 #include <stdbool.h>
@@ -47,5 +47,34 @@ static inline pair quotient(bool inward, pair a, pair b)
 static inline pair solution(bool inward, pair a, pair c, pair b)
 {
     return quotient(inward, (pair){b.lower - a.lower, b.upper - a.upper}, (pair){c.upper, c.lower});
+}
+
+static inline uint8_t *write_number(uint32_t n, uint8_t *to)
+{
+    int width = n < 100 ? n < 10 ? 1 : 2 : n < 10000 ? n < 1000 ? 3 : 4 : n < 1000000 ? n < 100000 ? 5 : 6 : 7;
+    for (int k = width; k > 0; k--, n /= 10)
+        to[k - 1] = '0' + n % 10;
+    return to + width;
+}
+
+static inline uint8_t *write_end(int64_t end, uint8_t *to)
+{
+    uint32_t size = end < 0 ? -end : end;
+    if (end < 0)
+        *to++ = '-';
+    to = write_number(size / 1000, to);
+    size %= 1000;
+    to[0] = '.', to[1] = '0' + size / 100, to[2] = '0' + size / 10 % 10, to[3] = '0' + size % 10;
+    return to + 4;
+}
+
+static inline uint8_t *write_pair(pair a, uint8_t *to)
+{
+    *to++ = '[';
+    to = write_end(a.lower, to);
+    *to++ = ',';
+    to = write_end(a.upper, to);
+    *to++ = ']';
+    return to;
 }
 #endif

@@ -102,25 +102,6 @@ static int answer(const uint8_t *s, pair *result, const uint8_t **end)
     return is_beyond(*result) ? 4 : 0;
 }
 
-static inline uint8_t *write_number(uint32_t n, uint8_t *to)
-{
-    int width = n < 100 ? n < 10 ? 1 : 2 : n < 10000 ? n < 1000 ? 3 : 4 : n < 1000000 ? n < 100000 ? 5 : 6 : 7;
-    for (int k = width; k > 0; k--, n /= 10)
-        to[k - 1] = '0' + n % 10;
-    return to + width;
-}
-
-static inline uint8_t *write_end(int64_t end, uint8_t *to)
-{
-    uint32_t size = end < 0 ? -end : end;
-    if (end < 0)
-        *to++ = '-';
-    to = write_number(size / 1000, to);
-    size %= 1000;
-    to[0] = '.', to[1] = '0' + size / 100, to[2] = '0' + size / 10 % 10, to[3] = '0' + size % 10;
-    return to + 4;
-}
-
 static uint8_t *write_line(uint32_t number, int cause, pair a, uint8_t *to)
 {
     to = write_number(number, to);
@@ -129,11 +110,7 @@ static uint8_t *write_line(uint32_t number, int cause, pair a, uint8_t *to)
         *to++ = 'R', *to++ = ' ';
         to = write_number(cause, to);
     } else {
-        *to++ = '[';
-        to = write_end(a.lower, to);
-        *to++ = ',';
-        to = write_end(a.upper, to);
-        *to++ = ']';
+        to = write_pair(a, to);
     }
     *to++ = '\n';
     return to;
