@@ -1,7 +1,7 @@
 -- Words read back, and the bytes of the word that was read.
 use mathlib.Core.Path.{_≡_, refl, sym, ap, _∙_}
 use mathlib.Core.List.{List, [], _∷_, _++_}
-use Prim.Native.Nat.{ℕ, suc, _+_, _*_, _/_, _%_, _≤_, _<_, _^_}
+use Prim.Native.Nat.{ℕ, suc, _+_, _/_, _%_, _≤_, _<_}
 use native.Mathlib.Numerals.{add-one, add-two, add-three}
 use native.Mathlib.Omega.{arith}
 use lib.IntN.{ℤ}
@@ -11,7 +11,7 @@ use mir.Facts.{ofZ-toZ}
 use mir.Syntax.{w32}
 use mir.Val.{Fits, SFits, toZ, ofZ}
 use Rattle.integers.specs.Locals.{plain}
-use Rattle.words.specs.Word.{word, word-at, word-bytes, signed-at, signed-bytes}
+use Rattle.words.specs.Word.{word-at, word-bytes, signed-at, signed-bytes}
 
 -- behind the end every word is 0
 pub word-absent : (s : List ℕ) (at : ℕ) → length s ≤ at → word-at s at ≡ 0
