@@ -86,6 +86,15 @@ wrote-then {t} {u} {d} {l₁} {l₂} {at} {i} {j} h a b = record {
   buffer-is = b .buffer-is ∙ ap₂ (λ n l. put u n l) (a .next-is) (a .buffer-is) ∙ put-behind t u d at h;
 }
 
+-- what was written over the front
+pub wrote-within : {t d l : List ℕ} {n : ℕ} → Wrote t 0 d n l → n ≤ length l
+unfolding put
+wrote-within {t} {d} w = omega (arith, w .next-is, ap length (w .buffer-is), length-append t (drop (0 + length t) d))
+
+pub wrote-front : {t d l : List ℕ} {n : ℕ} → Wrote t 0 d n l → take n l ≡ t
+unfolding put
+wrote-front {t} {d} {l} {n} w = ap (take n) (w .buffer-is) ∙ take-at t (drop (0 + length t) d) n (omega (arith, w .next-is))
+
 -- into a part `&mut d[at..at + k]` that came back as l
 pub wrote-lent : {t d l : List ℕ} {at k n : ℕ} → at + k ≤ length d → length t ≤ k → Wrote t 0 (take k (drop at d)) n l
     → Wrote t at d (at + n) (take at d ++ (l ++ drop k (drop at d)))

@@ -4,6 +4,7 @@ ghost use mathlib.Core.Path.{_≡_};
 ghost use Prim.Native.Nat.{_≤_};
 ghost use Rattle.lists.specs.Lists.{answer, outcome, built};
 use directed::Rounding;
+use directed::Verdict;
 use lists::ListAnswer;
 
 mod constant;
@@ -21,8 +22,8 @@ fn evaluate_within(list: &[u8], rounding: Rounding, values: usize, steps: usize)
     let verdict = decoded.verdict;
     let program = decoded.program;
     match verdict {
-        decode::Verdict::Sound => machine::run(list, program, rounding),
-        decode::Verdict::Refused(cause) => ListAnswer::Refused {
+        Verdict::Sound => machine::run(list, program, rounding),
+        Verdict::Refused(cause) => ListAnswer::Refused {
             cause,
             at: program.count,
         },

@@ -2,35 +2,45 @@
 use mathlib.Core.Path.{_≡_, refl, sym, ap, ap₂, _∙_}
 use mathlib.Core.Bool.{Bool, true, false, cond}
 use mathlib.Core.List.{List, [], _∷_, _++_, append-assoc}
-use Prim.Native.Nat.{ℕ, _+_, _/_}
+use Prim.Native.Nat.{ℕ, _+_, _/_, _%_}
 use native.Mathlib.Nat.{zero-add}
 use native.Mathlib.Omega.{arith}
 use lib.Dec.{leb}
 use lib.IntN.{ℤ, pos, natAbs}
 use lib.Signed.{ltZ}
 use lib.ListN.{length}
-use Rattle.decimal.specs.Digits.{width}
+use Rattle.decimal.specs.Digits.{digits, decimal, width}
 use Rattle.decimal.specs.Place.{over, put, placement, place, Placed}
-use Rattle.decimal.specs.PlaceLaws.{put-front}
+use Rattle.decimal.specs.PlaceLaws.{Fitting, placed-fitting, fitting-then, fitting-as, put-front}
 use Rattle.directed.specs.declared.Interval.{Interval}
 use Rattle.directed.specs.declared.Cause.the-variants.{EndBeyondRange, ShortBuffer}
 use Rattle.directed.specs.Thousandths.{pair}
 use Rattle.directed.specs.Lift.{pair-of, faulty}
 use Rattle.directed.specs.Answer.{value, given}
 use Rattle.text.specs.declared.Written.the-variants.{Length, Refused}
-use Rattle.text.specs.Text.{opening, comma, closing, size-text, sign-text, end-text, text}
+use Rattle.text.specs.Text.{opening, comma, closing, point, size-text, sign-text, end-text, text}
 use Rattle.text.specs.Answer.{in-room, leaving, write, writing}
 use Rattle.text.specs.EndLaws.{size-text-length, end-text-length}
 
--- the sign and the thousandths
-pub end-parts : (e : ℤ) (m : Bool) (n : ℕ) → m ≡ ltZ e (pos 0) → n ≡ natAbs e → sign-text m ++ size-text n ≡ end-text e
-unfolding end-text
-end-parts e m n em en = ap₂ (λ a b. sign-text a ++ size-text b) em en
+-- the whole part, and the point with three digits behind it
+pub size-fitting : {at i j : ℕ} {d d₁ d₂ : List ℕ} (n : ℕ) → Placed (decimal (n / 1000)) at d i d₁ → Fitting (point ∷ digits 3 (n % 1000)) i d₁ j d₂ → Fitting (size-text n) at d j d₂
+unfolding size-text
+size-fitting n p q = fitting-then (placed-fitting p) q
 
--- marks and ends
-pub interval-parts : (l u : ℤ) → ((((opening ∷ []) ++ end-text l) ++ (comma ∷ [])) ++ end-text u) ++ (closing ∷ []) ≡ text (pair l u)
+-- the sign, and the thousandths behind it
+pub end-fitting : {at i j : ℕ} {d d₁ d₂ : List ℕ} (e : ℤ) {m : Bool} {n : ℕ} → m ≡ ltZ e (pos 0) → n ≡ natAbs e
+    → Fitting (sign-text m) at d i d₁ → Fitting (size-text n) i d₁ j d₂ → Fitting (end-text e) at d j d₂
+unfolding end-text
+end-fitting e em en p q = fitting-as (ap₂ (λ a b. sign-text a ++ size-text b) em en) (fitting-then p q)
+
+-- marks and ends, each behind the last
+pub pair-fitting : {at i j k m n : ℕ} {d d₁ d₂ d₃ d₄ d₅ : List ℕ} (l u : ℤ)
+    → Placed (opening ∷ []) at d i d₁ → Fitting (end-text l) i d₁ j d₂ → Placed (comma ∷ []) j d₂ k d₃ → Fitting (end-text u) k d₃ m d₄ → Placed (closing ∷ []) m d₄ n d₅
+    → Fitting (text (pair l u)) at d n d₅
 unfolding text
-interval-parts l u = simp append-assoc
+pair-fitting l u o p c q e =
+    fitting-as (append-assoc (opening ∷ (end-text l ++ (comma ∷ []))) (end-text u) (closing ∷ []) ∙ ap (λ t. opening ∷ t) (append-assoc (end-text l) (comma ∷ []) _))
+    (fitting-then (fitting-then (fitting-then (fitting-then (placed-fitting o) p) (placed-fitting c)) q) (placed-fitting e))
 
 -- the answers
 

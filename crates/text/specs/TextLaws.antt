@@ -2,15 +2,19 @@
 use mathlib.Core.Path.{_≡_}
 use mathlib.Core.Bool.{false}
 use mathlib.Core.List.{[], _∷_, _++_}
-use Prim.Native.Nat.{_+_, _≤_, _<_}
+use Prim.Native.Nat.{_+_, _/_, _≤_, _<_}
 use native.Mathlib.Omega.{arith}
 use lib.IntN.{ℤ, pos, natAbs}
 use lib.Signed.{ltZ}
 use lib.ListN.{length, length-append}
-use Rattle.directed.specs.Thousandths.{Pair, beyond-range}
+use mir.Syntax.{w64}
+use mir.Val.{SFits}
+use Rattle.decimal.specs.DigitLaws.{width-le}
+use Rattle.directed.specs.Thousandths.{Pair, pair, beyond-range}
+use Rattle.integers.specs.Sizes.{mag-is, abs-is, canon}
 use Rattle.text.specs.Text.{comma, closing, end-text, text, longest}
 use Rattle.text.specs.Range.{inside-size, range-ends}
-use Rattle.text.specs.EndLaws.{end-text-length, sign-bit, size-text-le, seven-places}
+use Rattle.text.specs.EndLaws.{end-text-length, sign-bit, size-text-length, size-text-le, seven-places}
 
 -- two ends of at most seven digits before the point
 pub record Short (a : Pair) : Type 0 where
@@ -31,6 +35,15 @@ end-text-le e h = omega (arith, end-text-length e, sign-bit (ltZ e (pos 0)), siz
 pub text-length : (a : Pair) → length (text a) ≡ length (end-text (a .lower)) + length (end-text (a .upper)) + 3
 unfolding text
 text-length a = omega (arith, length-append (end-text (a .lower)) (comma ∷ (end-text (a .upper) ++ (closing ∷ []))), length-append (end-text (a .upper)) (closing ∷ []))
+
+-- of ends of 64 bits
+long-end-le : (e : ℤ) → SFits w64 e → length (end-text e) ≤ 21
+long-end-le e f =
+    let h : natAbs e ≤ 9223372036854775808 = omega (arith, f .sfits, mag-is e, abs-is e, canon e) in
+    omega (arith, end-text-length e, sign-bit (ltZ e (pos 0)), size-text-length (natAbs e), width-le (natAbs e / 1000) 16 (omega arith) (omega arith))
+
+pub long-longest : (l u : ℤ) → SFits w64 l → SFits w64 u → length (text (pair l u)) ≤ 45
+long-longest l u f g = omega (arith, text-length (pair l u), long-end-le l f, long-end-le u g)
 
 pub short-longest : (a : Pair) → Short a → length (text a) ≤ longest
 short-longest a s = omega (arith, text-length a, end-text-le (a .lower) (s .lower-short), end-text-le (a .upper) (s .upper-short))

@@ -15,10 +15,14 @@ ghost use Rattle.text.specs.Answer.{read, line-front, write, writing};
 
 mod end;
 mod front;
+mod long;
 mod size;
 
 // The longest text.
 const LONGEST: usize = 27;
+
+// The longest text of two ends of 64 bits.
+const LONGEST_LONG: usize = 45;
 
 // What writing answers: the length of the text, or why it is refused.
 pub enum Written {
@@ -110,4 +114,13 @@ pub fn write(a: Interval, buffer: &mut [u8]) -> Written
         return Written::Refused(Cause::ShortBuffer);
     }
     Written::Length(n)
+}
+
+// The text of any two ends, also beyond the range, from `at` on. It is put together first, and put where it finds room.
+pub fn put_long_pair(lower: i64, upper: i64, at: usize, buffer: &mut [u8]) -> usize
+    ensures { λ r. ⌜ Placed (text (pair lower upper)) at (now (buffer .entry)) r (now (buffer .exit)) ⌝ }
+{
+    let mut text = [0u8; LONGEST_LONG];
+    let n = long::put_pair(lower, upper, &mut text);
+    decimal::put_bytes(&text[..n], at, buffer)
 }
