@@ -1,13 +1,13 @@
 -- Texts that are put into a buffer one behind the other, or one before the other, and over a part that was lent.
 use mathlib.Core.Path.{_≡_, refl, sym, ap, ap₂, _∙_}
 use mathlib.Core.Bool.{Bool, true, false, cond}
-use mathlib.Core.List.{List, [], _∷_, _++_, append-assoc}
+use mathlib.Core.List.{List, [], _∷_, _++_, append-assoc, append-nil}
 use Prim.Native.Nat.{ℕ, zero, suc, _+_, _-_, _/_, _%_, _≤_, _<_}
 use native.Mathlib.Nat.{add-assoc, add-zero, zero-add}
 use native.Mathlib.Numerals.{add-one}
 use native.Mathlib.Omega.{arith}
 use lib.Dec.{leb}
-use lib.ListN.{length, take, drop, set, length-append, length-set, length-take, length-drop, take-append-drop}
+use lib.ListN.{length, take, drop, set, length-append, length-set, length-take, length-drop, take-append-drop, drop-of-length-le}
 use lib.Seq.{drop-drop, take-at, drop-at, take-append-le, drop-append-le, take-take, length-take-le, set-split}
 use borrow.Author.Tests.{le-leb, lt-leb, leb-true}
 use Rattle.decimal.specs.Digits.{digits, ten-million}
@@ -141,6 +141,12 @@ placed-fitting {t} {d} {l} {at} {next} p h =
 pub wrote-placed : {t d l : List ℕ} {at next : ℕ} → at + length t ≤ length d → Wrote t at d next l → Placed t at d next l
 unfolding place
 wrote-placed {t} {d} {l} {at} h w = record { is = rw (le-leb (at + length t) (length d) h) (ap₂ placement (w .next-is) (w .buffer-is)) }
+
+-- over all of a buffer
+pub placed-whole : {t d l : List ℕ} {next : ℕ} → length t ≡ length d → Placed t 0 d next l → l ≡ t
+unfolding over
+placed-whole {t} {d} e p =
+    placed-fitting p (omega arith) .buffer-is ∙ put-front t d ∙ ap (λ x. t ++ x) (drop-of-length-le d {i = length t} (omega arith)) ∙ append-nil t
 
 pub no-room : {t d : List ℕ} {at : ℕ} → length d < at + length t → Placed t at d at d
 unfolding place

@@ -1,12 +1,13 @@
 -- Words read back, and the bytes of the word that was read.
 use mathlib.Core.Path.{_≡_, refl, sym, ap, _∙_}
 use mathlib.Core.List.{List, [], _∷_, _++_}
-use Prim.Native.Nat.{ℕ, suc, _+_, _/_, _%_, _≤_, _<_}
+use Prim.Native.Nat.{ℕ, suc, _+_, _≤_, _<_}
+use native.Mathlib.Nat.{add-assoc}
 use native.Mathlib.Numerals.{add-one, add-two, add-three}
 use native.Mathlib.Omega.{arith}
 use lib.IntN.{ℤ}
 use lib.ListN.{length, getD, List·getD-eq-default}
-use lib.Seq.{slice, slice-cons, slice-empty, getD-append-add, getD-append-seam}
+use lib.Seq.{slice, slice-cons, slice-empty, getD-append-add}
 use mir.Facts.{ofZ-toZ}
 use mir.Syntax.{w32}
 use mir.Val.{Fits, SFits, toZ, ofZ}
@@ -24,20 +25,25 @@ word-absent s at h =
       List·getD-eq-default s 0 {n = at + 3} (omega arith),
     )
 
--- what was put is read, whatever stands around it
-module _ (p q : List ℕ) (at : ℕ) (e : length p ≡ at) where
-  pub word-back : (x : ℕ) → word-at (p ++ (word-bytes x ++ q)) at ≡ x
-  word-back x =
-      rw (
-        ← e,
-        getD-append-seam p (x % 256) (x / 256 % 256 ∷ x / 65536 % 256 ∷ x / 16777216 ∷ q) 0,
-        getD-append-add p (word-bytes x ++ q) 1 0,
-        getD-append-add p (word-bytes x ++ q) 2 0,
-        getD-append-add p (word-bytes x ++ q) 3 0,
-      ) (omega arith)
+-- a place behind p
+pub word-behind : (p s : List ℕ) (i : ℕ) → word-at (p ++ s) (length p + i) ≡ word-at s i
+word-behind p s i =
+    rw (
+      getD-append-add p s i 0,
+      add-assoc (length p) i 1,
+      add-assoc (length p) i 2,
+      add-assoc (length p) i 3,
+      getD-append-add p s (i + 1) 0,
+      getD-append-add p s (i + 2) 0,
+      getD-append-add p s (i + 3) 0,
+    )
 
-  pub signed-back : (z : ℤ) → SFits w32 z → signed-at (p ++ (signed-bytes z ++ q)) at ≡ z
-  signed-back z f = ap (toZ w32) (word-back (ofZ w32 z)) ∙ plain f
+-- what was put is read, whatever stands behind it
+pub word-back : (x : ℕ) (q : List ℕ) → word-at (word-bytes x ++ q) 0 ≡ x
+word-back x q = omega arith
+
+pub signed-back : (z : ℤ) (q : List ℕ) → SFits w32 z → signed-at (signed-bytes z ++ q) 0 ≡ z
+signed-back z q f = ap (toZ w32) (word-back (ofZ w32 z) q) ∙ plain f
 
 -- every element is a byte
 abbrev pub Bytes : List ℕ → Type 0
@@ -60,11 +66,13 @@ module _ (b : List ℕ) (small : Bytes b) (at : ℕ) where
   pub word-fits : Fits w32 (word-at b at)
   word-fits = record { fits = omega (arith, small at, small (at + 1), small (at + 2), small (at + 3)) }
 
-  pub word-slice : at + 4 ≤ length b → slice at (at + 4) b ≡ word-bytes (word-at b at)
-  word-slice h =
-      slice-four at b h
-      ∙ (let s₀ = small at in let s₁ = small (at + 1) in let s₂ = small (at + 2) in let s₃ = small (at + 3) in
-      same-four (omega arith) (omega arith) (omega arith) (omega arith))
+  pub word-slice : (to : ℕ) → at + 4 ≡ to → to ≤ length b → slice at to b ≡ word-bytes (word-at b at)
+  word-slice to e h =
+      let s₀ = small at in
+      let s₁ = small (at + 1) in
+      let s₂ = small (at + 2) in
+      let s₃ = small (at + 3) in
+      ap (λ (t : ℕ). slice at t b) (sym e) ∙ slice-four at b (omega arith) ∙ same-four (omega arith) (omega arith) (omega arith) (omega arith)
 
-  pub signed-slice : at + 4 ≤ length b → slice at (at + 4) b ≡ signed-bytes (signed-at b at)
-  signed-slice h = word-slice h ∙ ap (λ (n : ℕ). word-bytes n) (sym (ofZ-toZ word-fits))
+  pub signed-slice : (to : ℕ) → at + 4 ≡ to → to ≤ length b → slice at to b ≡ signed-bytes (signed-at b at)
+  signed-slice to e h = word-slice to e h ∙ ap (λ (n : ℕ). word-bytes n) (sym (ofZ-toZ word-fits))

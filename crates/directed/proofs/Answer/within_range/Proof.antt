@@ -4,26 +4,14 @@ use mathlib.Core.Path.{_≡_, refl, _∙_}
 use mathlib.Core.Bool.{true, false}
 use Prim.Native.Nat.{ℕ}
 use lib.IntN.{ℤ}
-use lib.Signed.{_≤ℤ_, ltZ}
-use mir.Syntax.{w32}
-use mir.Val.{SFits}
-use Rattle.integers.specs.Sizes.{linf, canon}
-use Rattle.integers.specs.Locals.{plain, lt-false}
-use Rattle.directed.specs.Thousandths.{pair, outside, beyond-range, least, greatest}
+use Rattle.integers.specs.Locals.{plain}
+use Rattle.directed.specs.Thousandths.{pair, outside, beyond-range}
 use Rattle.directed.specs.Lift.{interval}
+use Rattle.directed.specs.Range.{inside-fits}
 use Rattle.directed.specs.Answer.{built, value, refusal, within-range}
 use Rattle.directed.specs.declared.Interval.{Interval}
-use Rattle.directed.specs.Choice.{or-false}
 use Rattle.directed.proofs.Answer.within_range.Statement.{statement}
 use Rattle.directed.proofs.Answer.within_range.Tie as tie
-
-narrows : (z : ℤ) → outside z ≡ false → SFits w32 z
-unfolding outside
-narrows z e =
-    let p = or-false (ltZ z least) (ltZ greatest z) e in
-    let l : least ≤ℤ z = lt-false (p .0) in
-    let u : z ≤ℤ greatest = lt-false (p .1) in
-    omega (linf, canon z)
 
 -- the three answers, of plain numbers
 low-out : (n : ℕ) (l u : ℤ) → outside l ≡ true → refusal n ≡ built (within-range n (pair l u))
@@ -52,10 +40,10 @@ returns-2 : tie.Need-returns-2
 returns-2 c = high-out _ _ _ (lower-in (c .before .before)) (cc (plain (c .before .before .before .before .fits .upper)))
 
 cast-new : tie.Need-cast-new
-cast-new c = rw (plain (c .before .before .before .before .fits .lower)) (narrows _ (lower-in (c .before .before)))
+cast-new c = rw (plain (c .before .before .before .before .fits .lower)) (inside-fits _ (lower-in (c .before .before)))
 
 cast-new-2 : tie.Need-cast-new-2
-cast-new-2 c = rw (plain (c .before .before .before .before .fits .upper)) (narrows _ (upper-in c))
+cast-new-2 c = rw (plain (c .before .before .before .before .fits .upper)) (inside-fits _ (upper-in c))
 
 returns-3 : tie.Need-returns-3
 returns-3 c =

@@ -1,0 +1,60 @@
+-- The count, the record and the sum make the block of one record more.
+use mathlib.Core.Path.{_≡_, sym, ap, ap₂, _∙_}
+use Prim.Native.Nat.{_+_, _*_}
+use native.Mathlib.Omega.{arith}
+use lib.ListN.{length, set, length-set}
+use mir.Syntax.{w32}
+use mir.Val.{toZ, ofZ}
+use Rattle.directed.specs.Answer.{sound}
+use Rattle.directed.specs.Lift.{pair-of}
+use Rattle.directed.specs.Thousandths.{pair}
+use Rattle.decimal.specs.Place.{put}
+use Rattle.decimal.specs.PlaceLaws.{fitting-as}
+use Rattle.blocks.specs.Block.{record-of, record-bytes, count-of}
+use Rattle.blocks.specs.BlockLaws.{record-length}
+use Rattle.blocks.specs.Causes.{Judged, accepted-judged, judged-holds}
+use Rattle.blocks.specs.Stores.{sealed, accepted-appended}
+use borrow.Author.Needs.{needs}
+use Rattle.blocks.proofs.store.append.Statement.{statement}
+use Rattle.blocks.proofs.store.append.Tie as tie
+
+accepted : (c : tie.Start) → Judged 0 99 (c .args .block .now) sound
+accepted c = rw (c .pre .0) at (judged-holds 0 99 (c .args .block .now))
+
+long : (c : tie.Start) → length (c .args .block .now) ≡ 512
+long c = accepted-judged (accepted c) .0
+
+-- the fields of the count read back
+same : (c : tie.Start) → pair (toZ w32 (ofZ w32 (c .args .count .lower))) (toZ w32 (ofZ w32 (c .args .count .upper))) ≡ pair-of (c .args .count)
+same c =
+    let l : toZ w32 (ofZ w32 (c .args .count .lower)) ≡ c .args .count .lower = search needs in
+    let u : toZ w32 (ofZ w32 (c .args .count .upper)) ≡ c .args .count .upper = search needs in
+    ap₂ pair l u
+
+wrote : (c : tie.After-put-record) → let a = c .before .before .before .before .before .before .args in let b = a .block .now in
+    c .put-record .last .1 .1 .1 .1 .1 .0 ≡ put (record-bytes (record-of (a .box-number) (a .line) (pair-of (a .count)))) (4 + 16 * count-of b) (set b 2 (count-of b + 1))
+wrote c =
+    let s = c .before .before .before .before .before .before in
+    let a = s .args in
+    let r = record-of (a .box-number) (a .line) (pair-of (a .count)) in
+    fitting-as (ap (λ p. record-bytes (record-of (a .box-number) (a .line) p)) (same s)) (c .put-record .ensures)
+    (simp length-set (omega (arith, long s, s .pre .1, record-length r))) .buffer-is
+
+returns : tie.Need-returns
+returns c =
+    let p = c .before .before .before .before .before .before in
+    let s = p .before .before .before .before .before .before in
+    let a = s .args in
+    c .before .before .seal .ensures ∙ ap sealed (wrote p)
+    ∙ accepted-appended (a .block .now) (record-of (a .box-number) (a .line) (pair-of (a .count))) (λ i. p .before .before .before .before .before .slice-known .given i .fits) (accepted s) (s .pre .1)
+
+-- the stores keep the length
+kept : (c : tie.After-put-record) → length (c .put-record .last .1 .1 .1 .1 .1 .0) ≡ 512
+kept c = let s = c .before .before .before .before .before .before in c .put-record .kept .1 .1 .1 .1 .1 .0 ∙ length-set (s .args .block .now) 2 _ ∙ long s
+
+pub append-spec : {M : Type 1} → statement M
+append-spec =
+    tie.close
+    (tie.spec (λ c. omega (arith, long (c .before .before))) (λ c. search needs) (λ c. omega (arith, long (c .before .before))) (λ c. search needs) (λ c. search needs)
+    (λ c. search needs) (λ c κs. search needs) (λ c κs. kept (c .before .before .before))
+    (λ c. c .before .before .seal .kept .0 ∙ kept (c .before .before .before .before .before .before) ∙ sym (long (c .before .before .before .before .before .before .before .before .before .before .before .before))) returns)

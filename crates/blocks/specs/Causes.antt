@@ -1,0 +1,170 @@
+-- "Each number comes exactly if its cause holds and no cause earlier in the order does", for a block: 13, 14, 15; for beginning: 13; for adding: the
+-- block's, then 13, then 2.
+use mathlib.Core.Path.{_≡_, refl, sym, _∙_}
+use mathlib.Core.Bool.{Bool, true, false, not, _&&_, _||_, false≢true}
+use mathlib.Core.List.{List, [], _∷_, _++_}
+use mathlib.Core.Logic.{_↔_}
+use Prim.Native.Nat.{ℕ, _+_, _*_, _≤_, _<_}
+use native.Mathlib.Omega.{arith}
+use lib.Dec.{eqb, leb, ltb}
+use lib.ListN.{length, getD}
+use lib.Seq.{slice}
+use borrow.Author.Tests.{leb-true, leb-false, le-leb, lt-leb, ltb-true, ltb-false, lt-ltb, le-ltb, eqb-true, eqb-false, eq-eqb, ne-eqb}
+use Rattle.directed.specs.declared.Interval.{Interval}
+use Rattle.directed.specs.Choice.{if_then_else_, and-true}
+use Rattle.directed.specs.Answer.{Outcome, value, refusal, Judgement, sound, cause, unless, _otherwise_, given}
+use Rattle.directed.specs.Lift.{pair-of, faulty}
+use Rattle.words.specs.Word.{word-at}
+use Rattle.blocks.specs.Block.{record-of, byte-sum, block, number-of, count-of, records, summed, all-zero, all-within, headed, laid-out, judgement, begun, full, addable, added}
+
+-- ---- the layout: each field as it should be, or the first that is not
+pub record Laid-out (first last : ℕ) (b : List ℕ) : Type 0 where
+  pub from : first ≤ number-of b
+  pub to : number-of b ≤ last
+  pub few : count-of b ≤ 30
+  pub third : getD b 3 0 ≡ 0
+  pub unused : all-zero (slice (4 + 16 * count-of b) 484 b) ≡ true
+  pub spare : all-zero (slice 484 508 b) ≡ true
+  pub within : all-within (records b) ≡ true
+
+module _ (first last : ℕ) (b : List ℕ) where
+  pub laid-out-made : Laid-out first last b → laid-out first last b ≡ true
+  unfolding laid-out headed
+  laid-out-made l =
+      rw (
+        le-leb first (number-of b) (l .from),
+        le-leb (number-of b) last (l .to),
+        le-leb (count-of b) 30 (l .few),
+        eq-eqb (getD b 3 0) 0 (l .third),
+        l .unused,
+        l .spare,
+      ) (l .within)
+
+  pub laid-out-read : laid-out first last b ≡ true → Laid-out first last b
+  unfolding laid-out headed
+  laid-out-read e =
+      let p = and-true (headed first last b) _ e in
+      let h = and-true (leb first (number-of b) && leb (number-of b) last) _ (p .0) in
+      let n = and-true (leb first (number-of b)) _ (h .0) in
+      let c = and-true (leb (count-of b) 30) _ (h .1) in
+      let z = and-true (all-zero (slice (4 + 16 * count-of b) 484 b) && all-zero (slice 484 508 b)) _ (p .1) in
+      let u = and-true (all-zero (slice (4 + 16 * count-of b) 484 b)) _ (z .0) in
+      record {
+        from = leb-true _ _ (n .0);
+        to = leb-true _ _ (n .1);
+        few = leb-true _ _ (c .0);
+        third = eqb-true _ _ (c .1);
+        unused = u .0;
+        spare = u .1;
+        within = z .1;
+      }
+
+  pub laid-out-not : laid-out first last b ≡ false → Laid-out first last b → ⊥
+  laid-out-not e l = false≢true (sym e ∙ laid-out-made l)
+
+-- ---- a block: one constructor for each cause, in the order, with what makes it and the absence of those before it
+pub data Judged (first last : ℕ) (b : List ℕ) : Judgement → Type 0 where
+  wrong-length : (length b ≡ 512 → ⊥) → Judged first last b (cause 13)
+  wrong-sum : length b ≡ 512 → (byte-sum (slice 0 508 b) ≡ word-at b 508 → ⊥) → Judged first last b (cause 14)
+  wrong-layout : length b ≡ 512 → byte-sum (slice 0 508 b) ≡ word-at b 508 → (Laid-out first last b → ⊥) → Judged first last b (cause 15)
+  no-cause : length b ≡ 512 → byte-sum (slice 0 508 b) ≡ word-at b 508 → Laid-out first last b → Judged first last b sound
+
+module _ (first last : ℕ) (b : List ℕ) where
+  not-laid-out : (Laid-out first last b → ⊥) → laid-out first last b ≡ false
+  not-laid-out h = go (laid-out first last b) refl
+    where
+      go : (t : Bool) → laid-out first last b ≡ t → t ≡ false
+      go true e = absurd (h (laid-out-read first last b e))
+      go false e = refl
+
+  pub judged-is : {j : Judgement} → Judged first last b j → judgement first last b ≡ j
+  unfolding judgement summed
+  judged-is (wrong-length n) = rw (ne-eqb (length b) 512 n)
+  judged-is (wrong-sum n s) = rw (eq-eqb (length b) 512 n, ne-eqb (byte-sum (slice 0 508 b)) (word-at b 508) s)
+  judged-is (wrong-layout n s l) = rw (eq-eqb (length b) 512 n, eq-eqb (byte-sum (slice 0 508 b)) (word-at b 508) s, not-laid-out l)
+  judged-is (no-cause n s l) = rw (eq-eqb (length b) 512 n, eq-eqb (byte-sum (slice 0 508 b)) (word-at b 508) s, laid-out-made first last b l)
+
+  pub judged-holds : Judged first last b (judgement first last b)
+  unfolding judgement summed
+  judged-holds = go (eqb (length b) 512) (eqb (byte-sum (slice 0 508 b)) (word-at b 508)) (laid-out first last b) refl refl refl
+    where
+      go : (n s l : Bool) → eqb (length b) 512 ≡ n → eqb (byte-sum (slice 0 508 b)) (word-at b 508) ≡ s → laid-out first last b ≡ l
+          → Judged first last b (if not n then cause 13 else (if not s then cause 14 else (if not l then cause 15 else sound)))
+      go false s l e f g = wrong-length (eqb-false _ _ e)
+      go true false l e f g = wrong-sum (eqb-true _ _ e) (eqb-false _ _ f)
+      go true true false e f g = wrong-layout (eqb-true _ _ e) (eqb-true _ _ f) (laid-out-not first last b g)
+      go true true true e f g = no-cause (eqb-true _ _ e) (eqb-true _ _ f) (laid-out-read first last b g)
+
+  pub judgement-exactly : (j : Judgement) → (judgement first last b ≡ j) ↔ Judged first last b j
+  judgement-exactly j = ((λ e. rw e at judged-holds), judged-is)
+
+pub accepted-judged : {first last : ℕ} {b : List ℕ} → Judged first last b sound → (length b ≡ 512) × (byte-sum (slice 0 508 b) ≡ word-at b 508) × Laid-out first last b
+accepted-judged (no-cause n s l) = (n, s, l)
+
+-- ---- beginning
+pub data Begins (number : ℕ) (d : List ℕ) : Outcome (List ℕ) → Type 0 where
+  number-above : 99 < number → Begins number d (refusal 13)
+  other-length : number ≤ 99 → (length d ≡ 512 → ⊥) → Begins number d (refusal 13)
+  begins : number ≤ 99 → length d ≡ 512 → Begins number d (value (block number []))
+
+module _ (number : ℕ) (d : List ℕ) where
+  pub begins-is : {o : Outcome (List ℕ)} → Begins number d o → begun number d ≡ o
+  unfolding begun
+  begins-is (number-above h) = rw (lt-ltb 99 number h)
+  begins-is (other-length h n) = rw (le-ltb 99 number h, ne-eqb (length d) 512 n)
+  begins-is (begins h n) = rw (le-ltb 99 number h, eq-eqb (length d) 512 n)
+
+  begins-holds : Begins number d (begun number d)
+  unfolding begun
+  begins-holds = go (ltb 99 number) (eqb (length d) 512) refl refl
+    where
+      go : (a n : Bool) → ltb 99 number ≡ a → eqb (length d) 512 ≡ n → Begins number d (if a || not n then refusal 13 else value (block number []))
+      go true n e f = number-above (ltb-true _ _ e)
+      go false false e f = other-length (ltb-false _ _ e) (eqb-false _ _ f)
+      go false true e f = begins (ltb-false _ _ e) (eqb-true _ _ f)
+
+  pub begun-exactly : (o : Outcome (List ℕ)) → (begun number d ≡ o) ↔ Begins number d o
+  begun-exactly o = ((λ e. rw e at begins-holds), begins-is)
+
+-- ---- adding
+abbrev pub extended : ℕ → ℕ → Interval → List ℕ → List ℕ
+extended box line count b = block (number-of b) (records b ++ (record-of box line (pair-of count) ∷ []))
+
+pub data Adds (box line : ℕ) (count : Interval) (b : List ℕ) : Outcome (List ℕ) → Type 0 where
+  block-refused : {n : ℕ} → Judged 0 99 b (cause n) → Adds box line count b (refusal n)
+  holds-30 : Judged 0 99 b sound → count-of b ≡ 30 → Adds box line count b (refusal 13)
+  end-beyond : Judged 0 99 b sound → (count-of b ≡ 30 → ⊥) → faulty count ≡ true → Adds box line count b (refusal 2)
+  adds : Judged 0 99 b sound → (count-of b ≡ 30 → ⊥) → faulty count ≡ false → Adds box line count b (value (extended box line count b))
+
+module _ (box line : ℕ) (count : Interval) (b : List ℕ) where
+  pub adds-is : {o : Outcome (List ℕ)} → Adds box line count b o → added box line count b ≡ o
+  unfolding added addable full given
+  adds-is (block-refused j) = rw (judged-is 0 99 b j)
+  adds-is (holds-30 j n) = rw (judged-is 0 99 b j, eq-eqb (count-of b) 30 n)
+  adds-is (end-beyond j n f) = rw (judged-is 0 99 b j, ne-eqb (count-of b) 30 n, f)
+  adds-is (adds j n f) = rw (judged-is 0 99 b j, ne-eqb (count-of b) 30 n, f)
+
+  pub adds-holds : Adds box line count b (added box line count b)
+  unfolding added addable full given
+  adds-holds = go (judgement 0 99 b) (eqb (count-of b) 30) (faulty count) (judged-holds 0 99 b) refl refl
+    where
+      go : (j : Judgement) (n f : Bool) → Judged 0 99 b j → eqb (count-of b) 30 ≡ n → faulty count ≡ f
+          → Adds box line count b (unless (j otherwise (if n then cause 13 else sound) otherwise (if f then cause 2 else sound)) (value (extended box line count b)))
+      go (cause k) n f j d e = block-refused j
+      go sound true f j d e = holds-30 j (eqb-true _ _ d)
+      go sound false true j d e = end-beyond j (eqb-false _ _ d) e
+      go sound false false j d e = adds j (eqb-false _ _ d) e
+
+  pub added-exactly : (o : Outcome (List ℕ)) → (added box line count b ≡ o) ↔ Adds box line count b o
+  added-exactly o = ((λ e. rw e at adds-holds), adds-is)
+
+-- a block to which a record can be added
+pub addable-sound : (count : Interval) (b : List ℕ) → addable count b ≡ sound → Judged 0 99 b sound × (count-of b < 30)
+unfolding addable full given
+addable-sound count b = go (judgement 0 99 b) (eqb (count-of b) 30) (judged-holds 0 99 b) refl
+  where
+    go : (j : Judgement) (n : Bool) → Judged 0 99 b j → eqb (count-of b) 30 ≡ n
+        → (j otherwise (if n then cause 13 else sound) otherwise given (count ∷ [])) ≡ sound → Judged 0 99 b sound × (count-of b < 30)
+    go (cause k) n j d e = let z : _≡_ {A = ℕ} 0 1 = cc in absurd (omega arith)
+    go sound true j d e = let z : _≡_ {A = ℕ} 0 1 = cc in absurd (omega arith)
+    go sound false j d e = let n = eqb-false (count-of b) 30 d in (j, omega (arith, accepted-judged j .2 .few))

@@ -1,0 +1,111 @@
+-- How the code looks through a block: bytes summed from a place on, records one behind the other, and the tests of the layout in turn.
+use mathlib.Core.Path.{_≡_, refl, sym, ap, ap₂, _∙_}
+use mathlib.Core.Bool.{Bool, true, false, not, _&&_}
+use mathlib.Core.List.{List, [], _∷_, _++_}
+use Prim.Native.Nat.{ℕ, zero, suc, _+_, _-_, _*_, _≤_, _<_}
+use native.Mathlib.Numerals.{add-one}
+use native.Mathlib.Omega.{arith}
+use lib.Dec.{eqb, leb}
+use lib.IntN.{ℤ, pos, natAbs, _+ℤ_, +ℤ-assoc, +ℤ-idl, +ℤ-idr}
+use lib.ListN.{length, getD, take, drop-of-length-le, length-take}
+use lib.Seq.{slice, slice-cons}
+use borrow.Author.Tests.{leb-true, le-leb, lt-leb, eq-eqb, ne-eqb}
+use Rattle.directed.specs.declared.Interval.{Interval}
+use Rattle.directed.specs.Choice.{and-true}
+use Rattle.directed.specs.Thousandths.{Pair, pair, beyond-range}
+use Rattle.blocks.specs.Block.{Record, byte-sum, number-of, count-of, record-at, records-from, records, all-zero, all-within, headed, laid-out, plus, sum-of}
+use Rattle.blocks.specs.Parts.{slice-join, all-zero-append}
+
+-- ---- bytes summed, and zeros by their sum
+pub sum-next : (b : List ℕ) (i to : ℕ) → i < to → to ≤ length b → byte-sum (slice i to b) ≡ getD b i 0 + byte-sum (slice (i + 1) to b)
+unfolding byte-sum
+sum-next b i to h k = rw (slice-cons i to b 0 h k, add-one i)
+
+pub sum-done : (b : List ℕ) (i to : ℕ) → to ≤ i → byte-sum (slice i to b) ≡ 0
+unfolding byte-sum
+sum-done b i to h = rw (drop-of-length-le (take to b) {i = i} (simp length-take (omega arith)))
+
+pub zero-sum : (l : List ℕ) → eqb (byte-sum l) 0 ≡ all-zero l
+unfolding byte-sum all-zero
+zero-sum [] = refl
+zero-sum (zero ∷ l) = ap (λ (n : ℕ). eqb n 0) (let e : 0 + byte-sum l ≡ byte-sum l = omega arith in e) ∙ zero-sum l
+zero-sum (suc x ∷ l) = rw (ne-eqb (suc x + byte-sum l) 0 (omega arith), ne-eqb (suc x) 0 (omega arith))
+
+-- ---- records, one behind the other
+module _ (b : List ℕ) (n at : ℕ) (h : 0 < n) where
+  from-next : records-from n at b ≡ record-at at b ∷ records-from (n - 1) (at + 16) b
+  unfolding records-from
+  from-next = go n refl h
+    where
+      go : (k : ℕ) → k ≡ n → 0 < k → records-from k at b ≡ record-at at b ∷ records-from (n - 1) (at + 16) b
+      go zero e h = absurd (omega arith)
+      go (suc k) e h = ap (λ (m : ℕ). record-at at b ∷ records-from m (at + 16) b) (let g : k ≡ n - 1 = omega arith in g)
+
+  pub within-next : all-within (records-from n at b) ≡ (not (beyond-range (record-at at b .ends)) && all-within (records-from (n - 1) (at + 16) b))
+  unfolding all-within
+  within-next = ap all-within from-next
+
+  pub sum-of-next : sum-of (records-from n at b) ≡ plus (record-at at b .ends) (sum-of (records-from (n - 1) (at + 16) b))
+  unfolding sum-of
+  sum-of-next = ap sum-of from-next
+
+pub within-done : (b : List ℕ) (at : ℕ) → all-within (records-from 0 at b) ≡ true
+unfolding all-within records-from
+within-done b at = refl
+
+pub sum-of-done : (b : List ℕ) (at : ℕ) → sum-of (records-from 0 at b) ≡ pair (pos 0) (pos 0)
+unfolding sum-of records-from
+sum-of-done b at = refl
+
+-- ---- sums of pairs, end by end
+pub plus-assoc : (a b c : Pair) → plus (plus a b) c ≡ plus a (plus b c)
+plus-assoc a b c = ap₂ pair (+ℤ-assoc (a .lower) (b .lower) (c .lower)) (+ℤ-assoc (a .upper) (b .upper) (c .upper))
+
+pub plus-zero : (a : Pair) → plus a (pair (pos 0) (pos 0)) ≡ a
+plus-zero a = ap₂ pair (+ℤ-idr (a .lower)) (+ℤ-idr (a .upper))
+
+pub zero-plus : (a : Pair) → plus (pair (pos 0) (pos 0)) a ≡ a
+zero-plus a = ap₂ pair (+ℤ-idl (a .lower)) (+ℤ-idl (a .upper))
+
+-- ---- the tests of the header and of the layout, in the code's order
+module _ (first last : ℕ) (b : List ℕ) where
+  pub below-first : number-of b < first → false ≡ headed first last b
+  unfolding headed
+  below-first h = rw (lt-leb first (number-of b) h)
+
+  pub above-last : first ≤ number-of b → last < number-of b → false ≡ headed first last b
+  unfolding headed
+  above-last h k = rw (le-leb first (number-of b) h, lt-leb (number-of b) last k)
+
+  pub too-many : first ≤ number-of b → number-of b ≤ last → 30 < count-of b → false ≡ headed first last b
+  unfolding headed
+  too-many h k l = rw (le-leb first (number-of b) h, le-leb (number-of b) last k, lt-leb (count-of b) 30 l)
+
+  pub by-third : first ≤ number-of b → number-of b ≤ last → count-of b ≤ 30 → eqb (getD b 3 0) 0 ≡ headed first last b
+  unfolding headed
+  by-third h k l = rw (le-leb first (number-of b) h, le-leb (number-of b) last k, le-leb (count-of b) 30 l)
+
+  pub headed-few : headed first last b ≡ true → count-of b ≤ 30
+  unfolding headed
+  headed-few e =
+      let p = and-true (leb first (number-of b) && leb (number-of b) last) _ e in
+      leb-true (count-of b) 30 (and-true (leb (count-of b) 30) _ (p .1) .0)
+
+  pub not-headed : headed first last b ≡ false → false ≡ laid-out first last b
+  unfolding laid-out
+  not-headed e = rw e
+
+  -- unused record bytes and bytes 484 to 507 in one
+  rest-zero : length b ≡ 512 → count-of b ≤ 30 → eqb (byte-sum (slice (4 + 16 * count-of b) 508 b)) 0 ≡ (all-zero (slice (4 + 16 * count-of b) 484 b) && all-zero (slice 484 508 b))
+  rest-zero n h =
+      zero-sum (slice (4 + 16 * count-of b) 508 b)
+      ∙ ap all-zero (slice-join (4 + 16 * count-of b) 484 508 b (omega arith) (omega arith) (omega arith) refl refl)
+      ∙ all-zero-append (slice (4 + 16 * count-of b) 484 b) (slice 484 508 b)
+
+  pub not-zero : length b ≡ 512 → headed first last b ≡ true → (byte-sum (slice (4 + 16 * count-of b) 508 b) ≡ 0 → ⊥) → false ≡ laid-out first last b
+  unfolding laid-out
+  not-zero n e z = rw (e, ← rest-zero n (headed-few e), ne-eqb (byte-sum (slice (4 + 16 * count-of b) 508 b)) 0 z)
+
+  pub by-within : length b ≡ 512 → headed first last b ≡ true → byte-sum (slice (4 + 16 * count-of b) 508 b) ≡ 0 → all-within (records-from (count-of b) 4 b) ≡ laid-out first last b
+  unfolding laid-out records
+  by-within n e z = rw (e, ← rest-zero n (headed-few e), eq-eqb (byte-sum (slice (4 + 16 * count-of b) 508 b)) 0 z)
