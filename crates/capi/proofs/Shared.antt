@@ -10,12 +10,13 @@ use Rattle.directed.specs.declared.Interval.{Interval}
 use Rattle.directed.specs.Thousandths.{Pair, pair}
 use Rattle.directed.specs.Lift.{interval}
 use Rattle.directed.specs.Answer as answers
-use Rattle.directed.specs.Answer.{Outcome, built}
+use Rattle.directed.specs.Answer.{Outcome, Judgement, built}
 use Rattle.lists.specs.Lists as results
 use Rattle.lists.specs.Lists.{Result, value, refusal}
 use Rattle.directed.specs.ResultLaws.{value-refusal}
 use Rattle.text.specs.Answer.{Writing}
-use Rattle.capi.specs.Effect.{Effect, effect, done, paired, paired-result, effect-of, stepless, with-step, length-effect, length-effect-of, writing-effect, writing-effect-of}
+use Rattle.blocks.specs.Block.{Stored, stored}
+use Rattle.capi.specs.Effect.{Effect, effect, done, paired, paired-result, effect-of, stepless, with-step, length-effect, length-effect-of, writing-effect, writing-effect-of, returned-for, block-effect, block-effect-of}
 
 -- an interval made of two numbers that are given
 pub made : {a : Interval} {l u : ℤ} → SFits w32 l → SFits w32 u → a ≡ interval (pair (toZ w32 (ofZ w32 l)) (toZ w32 (ofZ w32 u))) → a ≡ interval (pair l u)
@@ -55,3 +56,7 @@ module _ (before : ℕ) {t : Outcome ℕ} where
   pub writing-effect-same : {n l : ℕ} {d : List ℕ} {w : Writing} → length-effect n l ≡ length-effect-of t before → record { answer = t; buffer = d } ≡ w → writing-effect n l d ≡ writing-effect-of w before
   unfolding writing-effect-of
   writing-effect-same p q = rw (← q, p)
+
+pub block-effect-same : {n : ℕ} {j : Judgement} {d : List ℕ} {s : Stored} → n ≡ returned-for j → stored j d ≡ s → block-effect n d ≡ block-effect-of s
+unfolding block-effect-of
+block-effect-same p q = rw (← q, p)

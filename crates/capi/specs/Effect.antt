@@ -7,11 +7,12 @@ use Rattle.directed.specs.declared.Interval.{Interval}
 use Rattle.directed.specs.declared.Rounding.{Rounding}
 use Rattle.directed.specs.declared.Rounding.the-variants.{Outward, Inward}
 use Rattle.directed.specs.Answer as answers
-use Rattle.directed.specs.Answer.{Outcome}
+use Rattle.directed.specs.Answer.{Outcome, Judgement}
 use Rattle.directed.specs.Lift.{pair-of}
 use Rattle.directed.specs.Thousandths.{Pair}
 use Rattle.lists.specs.Lists.{Result, value, refusal, at}
 use Rattle.text.specs.Answer.{Writing}
+use Rattle.blocks.specs.Block.{Stored}
 
 -- 01's way, as C says it: `inward`
 abbrev pub way : Bool → Rounding
@@ -74,3 +75,19 @@ writing-effect n l d = record { told = length-effect n l; buffer = d }
 -- The buffer is as 01 says, and the lent length stays as it was where no text is written.
 unfoldable pub writing-effect-of : Writing → ℕ → WritingEffect
 writing-effect-of w before = record { told = length-effect-of (w .answer) before; buffer = w .buffer }
+
+-- A block of the day file, begun or added to: the returned number, and the lent bytes at exit.
+pub record BlockEffect : Type 0 where
+  pub returned : ℕ
+  pub block : List ℕ
+
+abbrev pub block-effect : ℕ → List ℕ → BlockEffect
+block-effect n b = record { returned = n; block = b }
+
+abbrev pub returned-for : Judgement → ℕ
+returned-for answers.sound = 0
+returned-for (answers.cause n) = n
+
+-- 0, or the refusal's number; the bytes are as 02 says.
+unfoldable pub block-effect-of : Stored → BlockEffect
+block-effect-of s = block-effect (returned-for (s .said)) (s .bytes)

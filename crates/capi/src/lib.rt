@@ -13,12 +13,15 @@ ghost use Rattle.directed.specs.Equation as meaning;
 ghost use Rattle.text.specs.Answer.{told, read, write};
 ghost use Rattle.lists.specs.Lists as list;
 ghost use Rattle.lines.specs.Line as line;
-ghost use Rattle.capi.specs.Effect.{way, effect, done, paired, paired-result, effect-of, stepless, length-effect, length-effect-of, writing-effect, writing-effect-of};
+ghost use Rattle.directed.specs.Answer.{verdict-of};
+ghost use Rattle.blocks.specs.Block.{begun, added, storing};
+ghost use Rattle.capi.specs.Effect.{way, effect, done, paired, paired-result, effect-of, stepless, length-effect, length-effect-of, writing-effect, writing-effect-of, returned-for, block-effect, block-effect-of};
 use directed::Answer;
 use directed::Binary;
 use directed::Interval;
 use directed::Rounding;
 use directed::Unary;
+use directed::Verdict;
 use lists::ListAnswer;
 use text::Written;
 
@@ -236,4 +239,39 @@ pub extern "C" fn dzb_line(bytes: &[u8], result: &mut [i32; 2]) -> u32
     ensures { λ r. ⌜ effect r (now (result .exit)) ≡ effect-of (stepless (line.answer (now (bytes .entry)))) (now (result .entry)) ⌝ }
 {
     give(lines::answer(bytes), result)
+}
+
+// ---- blocks of the day file
+
+fn give_verdict(verdict: Verdict) -> u32
+    ensures { λ r. ⌜ r ≡ returned-for (verdict-of verdict) ⌝ }
+{
+    match verdict {
+        Verdict::Sound => 0,
+        Verdict::Refused(cause) => cause.number() as u32,
+    }
+}
+
+// Cause 13.
+#[no_mangle]
+pub extern "C" fn dzb_begin_block(number: u32, block: &mut [u8]) -> u32
+    ensures { λ r. ⌜ block-effect r (now (block .exit)) ≡ block-effect-of (storing (begun number (now (block .entry))) (now (block .entry))) ⌝ }
+{
+    let verdict = blocks::begin(number, block);
+    give_verdict(verdict)
+}
+
+// Causes 13, 14, 15, then 13, then 2.
+#[no_mangle]
+pub extern "C" fn dzb_add_record(
+    box_number: u32,
+    line: u32,
+    lower: i32,
+    upper: i32,
+    block: &mut [u8],
+) -> u32
+    ensures { λ r. ⌜ block-effect r (now (block .exit)) ≡ block-effect-of (storing (added «box_number» line (interval (pair lower upper)) (now (block .entry))) (now (block .entry))) ⌝ }
+{
+    let verdict = blocks::add(box_number, line, Interval::new(lower, upper), block);
+    give_verdict(verdict)
 }
