@@ -41,7 +41,12 @@ typedef int32_t dzb_pair[2];
 #define DZB_LIST_STEPS 64
 #define DZB_LIST_VALUES 16
 
-/* The refusal numbers of document 01's table. */
+/* The bytes of a block of the day file, the most records in one, the largest number of one. */
+#define DZB_BLOCK_BYTES 512
+#define DZB_BLOCK_RECORDS 30
+#define DZB_BLOCK_LAST 99
+
+/* The refusal numbers of document 01's table, and those that document 02 adds to it. */
 enum dzb_cause {
     DZB_DONE = 0,
     DZB_MALFORMED = 1,           /* text of a pair not in its form */
@@ -55,7 +60,10 @@ enum dzb_cause {
     DZB_STACK_OVERFLOW = 9,      /* a 17th value */
     DZB_TOO_MANY_STEPS = 10,     /* a 65th step */
     DZB_NOT_ONE_VALUE = 11,      /* not exactly one value at the end, the empty list included */
-    DZB_MALFORMED_LINE = 12      /* line over 96 bytes, or wrong count of fields */
+    DZB_MALFORMED_LINE = 12,     /* line over 96 bytes, or wrong count of fields */
+    DZB_BLOCK_BOUNDS = 13,       /* a block's number above 99, bytes that are not 512, a block that holds 30 records */
+    DZB_BLOCK_CHECKSUM = 14,     /* the sum of a block's bytes differs */
+    DZB_BLOCK_LAYOUT = 15        /* another field of a block breaks the layout, or an end in it is beyond the range */
 };
 
 /* Of a number that dzb_list returned: the refusal number, and the step to which it applies, counted from 0 (for DZB_NOT_ONE_VALUE the
@@ -110,6 +118,19 @@ uint32_t dzb_list(const uint8_t *list, size_t length, bool inward, dzb_pair resu
 /* The answer to a line of the slip program, its byte 10 not among the bytes given: `O` or `I`, one of `A S M D E`, and the pairs, cut at
  * every single space. Both ends of `result` are written. Refused, with nothing written: 12, 6, of each pair 1 or 2, then 5, 4. */
 uint32_t dzb_line(const uint8_t *line, size_t length, dzb_pair result);
+
+/* ---- blocks of the day file
+ *
+ * A block is 512 bytes, numbers low byte first: its number (2 bytes), the count of records, 0, up to 30 records of 16 bytes (box, line, lower end,
+ * upper end, 4 bytes each), zeros, and in the last 4 bytes the sum of all bytes before them. */
+
+/* Begins a block with no records: all 512 bytes of `block` are written. Refused, with nothing written: 13 where `number` is above 99 or `length`
+ * is not 512. */
+uint32_t dzb_begin_block(uint32_t number, uint8_t *block, size_t length);
+
+/* Adds a record behind those of a block: its count, the record and its sum are written. Refused, with nothing written: 13 where `length` is not 512,
+ * then 14, then 15 (the block's number may be any up to 99), then 13 where it holds 30 records, then 2. */
+uint32_t dzb_add_record(uint32_t box, uint32_t line, int32_t lower, int32_t upper, uint8_t *block, size_t length);
 
 #ifdef __cplusplus
 }

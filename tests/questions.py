@@ -1,4 +1,4 @@
-"""The questions of the two programs that are run and compared: QUESTIONS for crates/library_test, SLIP for crates/slip."""
+"""What the three programs that are run and compared are given: QUESTIONS crates/library_test, SLIP crates/slip, DAY crates/report."""
 import itertools
 import struct
 
@@ -314,11 +314,75 @@ def lists():
         yield from (list_question(way, data).encode() for data in group for way in ways)
 
 
+# ---- library_test: blocks of the day file
+
+def records(count):
+    """Records that differ: the greatest numbers that fit, then sixteen equal bytes, so that the runs are few."""
+    equal = [0x01010101 * k for k in range(1, count)]
+    return [(2**32 - 1, 2**32 - 1, (GREATEST, -GREATEST)), *((word, word, (word, word)) for word in equal)][:count]
+
+
+def damaged(block, place, *values):
+    """A block with other bytes and its sum made good."""
+    return reference.sealed((block[:place] + bytes(values) + block[place + len(values):])[:reference.SUMMED])
+
+
+def unsealed(block, difference):
+    """A block with another sum."""
+    return block[:reference.SUMMED] + struct.pack('<I', (sum(block[:reference.SUMMED]) + difference) % 2**32)
+
+
+def end_beyond(block, record, end, value):
+    return damaged(block, 4 + 16 * record + 8 + 4 * end, *struct.pack('<i', value))
+
+
+EMPTY, SOME_RECORDS, LAST, FULL = (reference.block_of(number, records(count)) for number, count in [(0, 0), (1, 3), (99, 29), (0, 30)])
+COUNT = (7, 1, (-1000, 5))
+BEYOND = (7, 1, (GREATEST + 1, 0))
+BEGIN = [(512, number) for number in (0, 1, 99, 100, 255, 256, 65535, 65536, 2**32 - 1)] + [(length, 0) for length in (0, 1, 511, 513, 520)] + [(511, 100)]
+ADD = [
+    ('behind those there: the first, a fourth, the thirtieth', [(COUNT, block) for block in (EMPTY, SOME_RECORDS, LAST)]),
+    ('the least and greatest numbers, each byte in its place, improper pairs', [
+        ((0, 2**32 - 1, (-GREATEST, GREATEST)), EMPTY), ((2**32 - 1, 0, (GREATEST, -GREATEST)), EMPTY), ((67305985, 134678021, (-1, -2**24)), EMPTY),
+    ]),
+    ('13: not 512 bytes', [(COUNT, (EMPTY + FULL)[:length]) for length in (0, 1, 511, 513, 1024)]),
+    ('14: another sum, of too few bytes or too many; a byte changed', [
+        *((COUNT, unsealed(SOME_RECORDS, difference)) for difference in (1, -1, 256, 2**24, sum(SOME_RECORDS[508:]))),
+        (COUNT, unsealed(damaged(SOME_RECORDS, 507, 1), -1)), (COUNT, SOME_RECORDS[:8] + b'\xff' + SOME_RECORDS[9:]),
+    ]),
+    ('15: the number, the count, byte 3, the unused bytes, bytes 484 to 507', [
+        (COUNT, damaged(block, place, *values)) for block, place, values in [
+            (LAST, 0, [100]), (LAST, 1, [1]), (LAST, 0, [255, 255]), (FULL, 2, [31]), (FULL, 2, [255]), (SOME_RECORDS, 2, [2]), (EMPTY, 3, [1]), (EMPTY, 3, [255]),
+            (EMPTY, 4, [1]), (SOME_RECORDS, 52, [1]), (LAST, 468, [1]), (LAST, 483, [1]), (FULL, 484, [1]), (FULL, 507, [1]),
+        ]
+    ]),
+    ('15: an end beyond the range, in the first record and in the last', [
+        (COUNT, end_beyond(block, record, end, value)) for block, record in [(SOME_RECORDS, 0), (LAST, 28)] for end in (0, 1)
+        for value in (GREATEST + 1, -GREATEST - 1, 2**31 - 1, -2**31)
+    ]),
+    ('a count told as more than it is: the bytes behind are records of zeros', [(COUNT, damaged(SOME_RECORDS, 2, 4))]),
+    ('13: 30 records', [(COUNT, FULL)]),
+    ('2: an end beyond the range', [((7, 1, ends), SOME_RECORDS) for ends in [(GREATEST + 1, 0), (0, GREATEST + 1), (-GREATEST - 1, 0), (0, -2**31)]]),
+    ('two causes: 13 before 14, 14 before 15, 15 before 13, 13 before 2, 15 and 14 before 2', [
+        (COUNT, unsealed(SOME_RECORDS, 1)[:511]), (COUNT, unsealed(damaged(FULL, 3, 1), 1)), (COUNT, damaged(FULL, 3, 1)), (BEYOND, FULL),
+        (BEYOND, damaged(EMPTY, 3, 1)), (BEYOND, unsealed(EMPTY, 1)), (BEYOND, EMPTY[:511]),
+    ]),
+]
+
+
+def blocks():
+    yield b'# Q-4: beginning a block'
+    yield from (b'begin %d %d' % question for question in BEGIN)
+    for title, group in ADD:
+        yield b'# Q-4: adding to a block; ' + title.encode()
+        yield from (b'add %d %d %d %d' % (box, line, *ends) + reference.runs(block) for (box, line, ends), block in group)
+
+
 def papers():
     return [line.split(' = ')[0].encode() for line in PAPERS.splitlines()]
 
 
-QUESTIONS = b''.join(line + b'\n' for part in (papers(), OPERATIONS.encode().splitlines(), texts(), lists()) for line in part)
+QUESTIONS = b''.join(line + b'\n' for part in (papers(), OPERATIONS.encode().splitlines(), texts(), lists(), blocks()) for line in part)
 
 # ---- slip
 
@@ -386,3 +450,7 @@ LINES = [
 ]
 # The last line has no byte 10.
 SLIP = b'\n'.join(LINES) + b'\nO A [0.001,0.001] [0.000,0.000]'
+
+# ---- report: a total beyond the range, which no reader takes back
+
+DAY = b''.join(reference.block_of(place, day) for place, day in enumerate([records(30), [], records(1), [(9, 9, (GREATEST, -GREATEST))] * 30]))

@@ -1,12 +1,14 @@
 #!/usr/bin/env python3
-"""Document 01 read into Python: exact fractions, no code of the library's. Everything that is expected of a program comes from here.
+"""Documents 01 and 02 read into Python: exact fractions, no code of the library's. Everything that is expected of a program comes from here.
 
 A pair is a tuple of two ends. What is given and what is answered is in whole thousandths; in between ends are `Fraction`s of a unit.
 A function returns its value or raises `Refusal`. Run as a program, it answers the lines of standard input as the slip does.
 """
 import contextlib
+import itertools
 import math
 import re
+import struct
 import sys
 from fractions import Fraction
 
@@ -18,7 +20,7 @@ OTHER = {OUTWARD: INWARD, INWARD: OUTWARD}
 
 
 class Refusal(Exception):
-    """A number of the table of causes; in a list also the step, or the count of steps."""
+    """A number of the table of causes; in a list also the step, or the count of steps; in a report the block's place."""
 
     def __init__(self, number, step=None):
         super().__init__(number, step)
@@ -279,6 +281,61 @@ def output(data):
     return b''.join(b'%d %s\n' % (n, told(lambda: line_value(line), text_of)) for n, line in enumerate(lines_of(data), 1))
 
 
+# ---- document 02, Q-4: "The day file". A record is a tuple of box, line and the count's pair.
+
+BLOCK, BLOCKS, RECORDS = 512, 100, 30
+SUMMED = 508  # "Bytes 508 to 511 hold the sum of bytes 0 to 507."
+
+
+def sealed(contents):
+    return contents + struct.pack('<I', sum(contents))
+
+
+def block_of(number, records):
+    """Zeros, filled in: 'A block begins as 512 zero bytes and is filled in.'"""
+    contents = struct.pack('<HBB', number, len(records), 0) + b''.join(struct.pack('<IIii', box, line, *ends) for box, line, ends in records)
+    return sealed(contents.ljust(SUMMED, b'\0'))
+
+
+def block_records(block, numbers):
+    """Its records, where it is accepted and its number is one of these."""
+    refuse(13, len(block) != BLOCK)
+    refuse(14, sum(block[:SUMMED]) != int.from_bytes(block[SUMMED:], 'little'))
+    number, count, third = struct.unpack_from('<HBB', block)
+    records = [(box, line, (lower, upper)) for box, line, lower, upper in struct.iter_unpack('<IIii', block[4:4 + 16 * min(count, RECORDS)])]
+    refuse(15, number not in numbers or count > RECORDS or third != 0 or any(block[4 + 16 * count:SUMMED]) or any(beyond(ends) for _, _, ends in records))
+    return records
+
+
+def begin_block(number, length):
+    refuse(13, number > 99 or length != BLOCK)
+    return block_of(number, [])
+
+
+def add_record(record, block):
+    records = block_records(block, range(100))
+    refuse(13, len(records) == RECORDS)
+    refuse(2, beyond(record[2]))
+    return block_of(int.from_bytes(block[:2], 'little'), records + [record])
+
+
+def file_records(data):
+    """The records of all blocks of a file, or the first refusal with its place."""
+    records = []
+    for place, start in enumerate(range(0, len(data), BLOCK)):
+        with at_step(place):
+            refuse(13, place == BLOCKS)
+            records += block_records(data[start:start + BLOCK], [place])
+    return records
+
+
+def report(data):
+    """What the report program prints."""
+    def line(records):
+        return b'%d %s' % (len(records), text_of(tuple(sum(ends[k] for _, _, ends in records) for k in (0, 1))))
+    return told(lambda: file_records(data), line) + b'\n'
+
+
 # ---- what crates/library_test prints: its questions are described there
 
 BUFFER = 28
@@ -297,6 +354,28 @@ def written(pair, room):
         return b'R %d %s' % (refusal.number, b'#' * BUFFER)
 
 
+LENT = 520
+
+
+def runs(data):
+    """Bytes as library_test takes and shows them: two digits of the byte, and three of how often it comes."""
+    return b''.join(b' %02x*%03x' % (byte, len(list(run))) for byte, run in itertools.groupby(data))
+
+
+def stored(make, lent):
+    """What is told, and the lent bytes behind it."""
+    try:
+        return b'0' + runs(make())
+    except Refusal as refusal:
+        return b'R %d' % refusal.number + runs(lent)
+
+
+def begun(length, number):
+    """Into the first `length` of some bytes, each `#` before."""
+    lent = b'#' * LENT
+    return stored(lambda: begin_block(number, length) + lent[length:], lent)
+
+
 def answer(question):
     word, _, rest = question.partition(b' ')
     way = word.decode('latin-1')
@@ -306,7 +385,14 @@ def answer(question):
         return told(lambda: read_text(rest), ends)
     if word == b'list':
         return told(lambda: evaluate(way, bytes.fromhex(rest.decode())), ends)
+    if word == b'add':
+        fields = rest.split()
+        box, line, lower, upper = map(int, fields[:4])
+        lent = b''.join(bytes([int(run[:2], 16)]) * int(run[3:], 16) for run in fields[4:])
+        return stored(lambda: add_record((box, line, (lower, upper)), lent), lent)
     numbers = [int(n) for n in rest.split()]
+    if word == b'begin':
+        return begun(*numbers)
     if word == b'write':
         return written(tuple(numbers[1:]), numbers[0])
     pairs = list(zip(numbers[::2], numbers[1::2]))

@@ -18,6 +18,8 @@ unsafe extern "C" {
     fn dzb_write(lower: i32, upper: i32, buffer: *mut u8, length: usize, written: &mut usize) -> u32;
     fn dzb_list(list: *const u8, length: usize, inward: bool, result: &mut [i32; 2]) -> u32;
     fn dzb_line(line: *const u8, length: usize, result: &mut [i32; 2]) -> u32;
+    fn dzb_begin_block(number: u32, block: *mut u8, length: usize) -> u32;
+    fn dzb_add_record(case: u32, line: u32, lower: i32, upper: i32, block: *mut u8, length: usize) -> u32;
 }
 
 /// The ends of the pairs in the order of the call: two for each pair that the operation takes.
@@ -54,4 +56,13 @@ pub fn list(list: &[u8], way: Way, result: &mut [i32; 2]) -> u32 {
 
 pub fn line(line: &[u8], result: &mut [i32; 2]) -> u32 {
     unsafe { dzb_line(line.as_ptr(), line.len(), result) }
+}
+
+pub fn begin_block(number: u32, block: &mut [u8]) -> u32 {
+    unsafe { dzb_begin_block(number, block.as_mut_ptr(), block.len()) }
+}
+
+/// The ends are lower, then upper.
+pub fn add_record(case: u32, line: u32, ends: (i32, i32), block: &mut [u8]) -> u32 {
+    unsafe { dzb_add_record(case, line, ends.0, ends.1, block.as_mut_ptr(), block.len()) }
 }

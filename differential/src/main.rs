@@ -2,6 +2,7 @@
 
 mod case;
 mod containment;
+mod day;
 mod exact;
 mod generate;
 mod library;
@@ -20,10 +21,11 @@ use std::sync::Mutex;
 use std::time::{Instant, SystemTime, UNIX_EPOCH};
 
 const HELP: &str = "\
-usage: differential [--seed N] [--comparisons N] [--program PATH]
+usage: differential [--seed N] [--comparisons N] [--program PATH] [--report PATH]
   --seed N          the random inputs' seed (default: from the clock; printed)
   --comparisons N   how many random inputs (default: 20000000)
-  --program PATH    the slip program, to be compared on whole inputs";
+  --program PATH    the slip program, to be compared on whole inputs
+  --report PATH     the report program, to be compared on whole files";
 
 const BLOCK: u64 = 10_000;
 
@@ -33,11 +35,12 @@ struct Options {
     seed: u64,
     comparisons: u64,
     program: Option<String>,
+    report: Option<String>,
 }
 
 fn options() -> Options {
     let clock = SystemTime::now().duration_since(UNIX_EPOCH).map_or(0, |d| d.as_nanos() as u64);
-    let mut options = Options { seed: clock % 1_000_000_007, comparisons: 20_000_000, program: None };
+    let mut options = Options { seed: clock % 1_000_000_007, comparisons: 20_000_000, program: None, report: None };
     let mut words = std::env::args().skip(1);
     while let Some(word) = words.next() {
         let mut value = || words.next().unwrap_or_else(|| stop(HELP));
@@ -45,6 +48,7 @@ fn options() -> Options {
             "--seed" => options.seed = value().parse().unwrap_or_else(|_| stop(HELP)),
             "--comparisons" => options.comparisons = value().parse().unwrap_or_else(|_| stop(HELP)),
             "--program" => options.program = Some(value()),
+            "--report" => options.report = Some(value()),
             _ => stop(HELP),
         }
     }
@@ -207,6 +211,10 @@ fn main() {
             Ok(told) => println!("{told}"),
             Err(message) => stop(&format!("FAILED: {message}")),
         }
+    }
+    match day::compare(options.report.as_deref(), options.seed) {
+        Ok(told) => println!("{told}"),
+        Err(message) => stop(&format!("FAILED: {message}")),
     }
     println!("the paper's five mistakes, each made by the reference and found, with the smallest input:");
     check_mistakes(options.seed);

@@ -1,4 +1,4 @@
-//! The slip program, run on whole inputs and compared with what document 01 prints for them.
+//! A program run on an input; the slip program, run on whole inputs and compared with what document 01 prints for them.
 
 use crate::generate;
 use crate::paper::Paper;
@@ -7,7 +7,7 @@ use std::io::Write;
 use std::process::{Command, Stdio};
 
 /// Runs the program on an input, written in pieces of random sizes so that reads end anywhere.
-fn run(path: &str, input: &[u8], r: &mut Random) -> Result<Vec<u8>, String> {
+pub fn run(path: &str, input: &[u8], r: &mut Random) -> Result<Vec<u8>, String> {
     let mut child =
         Command::new(path).stdin(Stdio::piped()).stdout(Stdio::piped()).spawn().map_err(|e| format!("{path}: {e}"))?;
     let mut stdin = child.stdin.take().ok_or("no standard input")?;
@@ -21,7 +21,7 @@ fn run(path: &str, input: &[u8], r: &mut Random) -> Result<Vec<u8>, String> {
     }
     let writer = std::thread::spawn(move || {
         for piece in pieces {
-            // The program may stop reading after its last line.
+            // The slip stops reading after its last line, the report after a refusal.
             if stdin.write_all(&piece).and_then(|_| stdin.flush()).is_err() {
                 return;
             }

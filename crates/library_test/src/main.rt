@@ -6,7 +6,10 @@
 //   read [1.000,2.000]
 //   write 27 1000 2000          into the first 27 of 28 bytes, all `#` before; the answer shows all 28
 //   O list 00 e8 03 00 00       the list's bytes
+//   begin 512 99                into the first 512 of 520 bytes, all `#` before; the answer shows all 520, in runs: 00*1fb is 1fb times 00
+//   add 7 1 -1000 5 00*200      to the bytes behind box, line and the two ends; the answer shows them all
 // A refusal is `R` and its number, in a list also the step. A line that begins with `#` is no question.
+mod block;
 mod numbers;
 
 use directed::Answer;
@@ -149,6 +152,8 @@ fn answer(line: &[u8]) {
         b'I' => answer_rounded(line, Rounding::Inward),
         b'r' => show_answer(text::read(&line[5..])),
         b'w' => write(line),
+        b'a' => block::add(line),
+        b'b' => block::begin(line),
         letter => show_answer(unary(letter, line)),
     }
 }

@@ -9,7 +9,7 @@ pub struct Bytes {
     pub len: usize,
 }
 
-fn digit(b: u8) -> u8
+pub fn digit(b: u8) -> u8
     ensures { λ r. ⌜ r ≤ 15 ⌝ }
 {
     match b {
@@ -19,7 +19,7 @@ fn digit(b: u8) -> u8
     }
 }
 
-fn byte_of(high: u8, low: u8) -> u8 {
+pub fn byte_of(high: u8, low: u8) -> u8 {
     digit(high) * 16 + digit(low)
 }
 
@@ -40,9 +40,9 @@ pub fn bytes_of(line: &[u8]) -> Bytes
     Bytes { list, len: n }
 }
 
-fn next_size(size: u32, b: u8) -> u32 {
-    if size < 400_000_000 {
-        size * 10 + digit(b) as u32
+fn next_size(size: u64, b: u8) -> u64 {
+    if size < 1_000_000_000 {
+        size * 10 + digit(b) as u64
     } else {
         size
     }
@@ -58,14 +58,28 @@ fn next_field(at: usize, b: u8) -> usize {
 
 struct Field {
     minus: bool,
-    size: u32,
+    size: u64,
+}
+
+// Where a field begins.
+pub fn start(line: &[u8], field: usize) -> usize {
+    let mut at: usize = 0;
+    let mut i: usize = 0;
+    while i < line.len() {
+        if at == field {
+            return i;
+        }
+        at = next_field(at, line[i]);
+        i += 1;
+    }
+    i
 }
 
 // The number in a field.
 fn find(line: &[u8], field: usize) -> Field {
     let mut at: usize = 0;
     let mut minus = false;
-    let mut size: u32 = 0;
+    let mut size: u64 = 0;
     let mut i: usize = 0;
     while i < line.len() {
         let b = line[i];
@@ -83,7 +97,16 @@ pub fn size(line: &[u8], field: usize) -> usize {
     find(line, field).size as usize
 }
 
-fn negative(size: u32) -> i32 {
+pub fn unsigned(line: &[u8], field: usize) -> u32 {
+    let size = find(line, field).size;
+    if 4294967295 < size {
+        4294967295
+    } else {
+        size as u32
+    }
+}
+
+fn negative(size: u64) -> i32 {
     if 2147483647 < size {
         -2147483648
     } else {
