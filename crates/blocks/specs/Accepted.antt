@@ -1,19 +1,19 @@
 -- A block is accepted exactly if it is the block of a number and records that it can hold, byte for byte; and these are then its number and records.
 use mathlib.Core.Path.{_≡_, refl, sym, ap, ap₂, _∙_}
-use mathlib.Core.Bool.{Bool, true, false, not, _&&_}
-use mathlib.Core.List.{List, [], _∷_, _++_}
+use mathlib.Core.Bool.{true}
+use mathlib.Core.List.{List, [], _∷_}
 use mathlib.Core.Logic.{_↔_}
-use Prim.Native.Nat.{ℕ, zero, suc, _+_, _-_, _*_, _/_, _%_, _≤_, _<_}
+use Prim.Native.Nat.{ℕ, zero, suc, _+_, _-_, _*_, _≤_, _<_}
 use native.Mathlib.Omega.{arith}
-use lib.ListN.{length, getD, replicate}
+use lib.ListN.{length, getD}
 use lib.Seq.{slice, slice-empty, take-all}
 use Rattle.directed.specs.Answer.{sound}
-use Rattle.words.specs.Word.{word-at, word-bytes}
+use Rattle.words.specs.Word.{word-bytes}
 use Rattle.words.specs.WordLaws.{Bytes, slice-four, word-slice, signed-slice}
 use Rattle.blocks.specs.Block.{Record, record-bytes, records-bytes, header, contents, byte-sum, block, number-of, count-of, record-at, records-from, records, all-within, judgement}
 use Rattle.blocks.specs.Parts.{slice-join, zeros-slice}
-use Rattle.blocks.specs.BlockLaws.{records-length, from-length, count-is, block-number, block-count, block-third, block-records, block-length, block-sum, block-unused, block-spare}
-use Rattle.blocks.specs.Causes.{Laid-out, Judged, no-cause, accepted-judged, judged-holds, judged-is}
+use Rattle.blocks.specs.BlockLaws.{from-length, count-is, block-number, block-count, block-third, block-records, block-length, block-sum, block-unused, block-spare}
+use Rattle.blocks.specs.Causes.{Judged, no-cause, accepted-judged, judged-holds, judged-is}
 
 -- ---- the block of a number and records is accepted
 module _ (number : ℕ) (rs : List Record) (few : length rs ≤ 30) (within : all-within rs ≡ true) where

@@ -1,8 +1,8 @@
 -- The block of a number and records: its length, and that its fields are those.
 use mathlib.Core.Path.{_≡_, refl, sym, ap, ap₂, _∙_}
-use mathlib.Core.Bool.{Bool, true, false, not, _&&_}
+use mathlib.Core.Bool.{true, not}
 use mathlib.Core.List.{List, [], _∷_, _++_, append-assoc}
-use Prim.Native.Nat.{ℕ, zero, suc, _+_, _-_, _*_, _/_, _%_, _≤_, _<_}
+use Prim.Native.Nat.{ℕ, zero, suc, _+_, _-_, _*_, _≤_}
 use native.Mathlib.Nat.{add-assoc}
 use native.Mathlib.Omega.{arith}
 use lib.IntN.{ℤ}
@@ -12,9 +12,9 @@ use mir.Syntax.{w32}
 use mir.Val.{SFits}
 use borrow.Author.Tests.{not-true}
 use Rattle.directed.specs.Choice.{and-true}
-use Rattle.directed.specs.Thousandths.{Pair, pair, beyond-range}
+use Rattle.directed.specs.Thousandths.{pair, beyond-range}
 use Rattle.directed.specs.Range.{range-ends, inside-fits}
-use Rattle.words.specs.Word.{word-at, word-bytes, signed-at, signed-bytes}
+use Rattle.words.specs.Word.{word-at, word-bytes, signed-bytes}
 use Rattle.words.specs.WordLaws.{word-behind, word-back, signed-back}
 use Rattle.blocks.specs.Block.{Record, record-of, record-bytes, records-bytes, header, contents, byte-sum, block, number-of, count-of, record-at, records-from, records, all-zero, all-within}
 use Rattle.blocks.specs.Parts.{slice-mid, zeros-all}

@@ -1,20 +1,19 @@
 -- What beginning and adding leave, with their contracts as the only premise: blocks that are accepted, whose records are those that were added, in
 -- order; and after a refusal the bytes that were lent.
-use mathlib.Core.Path.{_≡_, refl, sym, ap, ap₂, _∙_}
-use mathlib.Core.Bool.{Bool, true, false, not, _&&_}
+use mathlib.Core.Path.{_≡_, refl, sym, ap, _∙_}
+use mathlib.Core.Bool.{true, false, not}
 use mathlib.Core.List.{List, [], _∷_, _++_}
-use Prim.Native.Nat.{ℕ, suc, _+_, _≤_, _<_}
+use Prim.Native.Nat.{ℕ, _≤_}
 use native.Mathlib.Omega.{arith}
 use lib.ListN.{length, length-append}
 use Rattle.directed.specs.declared.Interval.{Interval}
 use Rattle.directed.specs.declared.Verdict.{Verdict}
 use Rattle.directed.specs.Choice.{and-true}
 use Rattle.directed.specs.Thousandths.{beyond-range}
-use Rattle.directed.specs.Lift.{pair-of, faulty}
+use Rattle.directed.specs.Lift.{pair-of}
 use Rattle.directed.specs.Range.{sound-range}
 use Rattle.directed.specs.Answer.{Outcome, value, refusal, Judgement, sound, cause, verdict-of}
-use Rattle.words.specs.WordLaws.{Bytes}
-use Rattle.blocks.specs.Block.{Record, record-of, block, number-of, count-of, records, all-within, judgement, begun, added, Stored, stored, storing}
+use Rattle.blocks.specs.Block.{Record, record-of, block, number-of, records, all-within, judgement, begun, added, stored, storing}
 use Rattle.blocks.specs.BlockLaws.{count-is, block-number, block-records}
 use Rattle.blocks.specs.Causes.{accepted-judged, Begins, begins, begun-exactly, Adds, adds, added-exactly}
 use Rattle.blocks.specs.Accepted.{block-accepted}

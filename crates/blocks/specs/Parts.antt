@@ -9,7 +9,7 @@ use lib.ListN.{length, replicate, take, drop, length-append, take-append-drop}
 use lib.Seq.{slice, length-slice, take-at, drop-at, take-take, drop-append-le, length-take-le}
 use borrow.Author.Tests.{eqb-true}
 use Rattle.directed.specs.Choice.{and-true}
-use Rattle.blocks.specs.Block.{all-zero, byte-sum}
+use Rattle.blocks.specs.Block.{all-zero}
 
 -- ---- a part is its two parts; a part in the middle
 pub slice-join : {x y : List ℕ} (f m t : ℕ) (l : List ℕ) → f ≤ m → m ≤ t → m ≤ length l → slice f m l ≡ x → slice m t l ≡ y → slice f t l ≡ x ++ y

@@ -1,19 +1,18 @@
 -- How the code looks through a block: bytes summed from a place on, records one behind the other, and the tests of the layout in turn.
-use mathlib.Core.Path.{_≡_, refl, sym, ap, ap₂, _∙_}
-use mathlib.Core.Bool.{Bool, true, false, not, _&&_}
-use mathlib.Core.List.{List, [], _∷_, _++_}
+use mathlib.Core.Path.{_≡_, refl, ap, ap₂, _∙_}
+use mathlib.Core.Bool.{true, false, not, _&&_}
+use mathlib.Core.List.{List, [], _∷_}
 use Prim.Native.Nat.{ℕ, zero, suc, _+_, _-_, _*_, _≤_, _<_}
 use native.Mathlib.Numerals.{add-one}
 use native.Mathlib.Omega.{arith}
 use lib.Dec.{eqb, leb}
-use lib.IntN.{ℤ, pos, natAbs, _+ℤ_, +ℤ-assoc, +ℤ-idl, +ℤ-idr}
+use lib.IntN.{pos, +ℤ-assoc, +ℤ-idl, +ℤ-idr}
 use lib.ListN.{length, getD, take, drop-of-length-le, length-take}
 use lib.Seq.{slice, slice-cons}
 use borrow.Author.Tests.{leb-true, le-leb, lt-leb, eq-eqb, ne-eqb}
-use Rattle.directed.specs.declared.Interval.{Interval}
 use Rattle.directed.specs.Choice.{and-true}
 use Rattle.directed.specs.Thousandths.{Pair, pair, beyond-range}
-use Rattle.blocks.specs.Block.{Record, byte-sum, number-of, count-of, record-at, records-from, records, all-zero, all-within, headed, laid-out, plus, sum-of}
+use Rattle.blocks.specs.Block.{byte-sum, number-of, count-of, record-at, records-from, records, all-zero, all-within, headed, laid-out, plus, sum-of}
 use Rattle.blocks.specs.Parts.{slice-join, all-zero-append}
 
 -- ---- bytes summed, and zeros by their sum

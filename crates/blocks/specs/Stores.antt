@@ -1,9 +1,9 @@
 -- What the code stores is the block: from zeros, and a record behind those of a block.
 use mathlib.Core.Path.{_≡_, refl, sym, ap, ap₂, _∙_}
 use mathlib.Core.List.{List, [], _∷_, _++_, append-assoc, append-nil}
-use Prim.Native.Nat.{ℕ, zero, suc, _+_, _-_, _*_, _/_, _%_, _≤_, _<_}
+use Prim.Native.Nat.{ℕ, suc, _+_, _-_, _*_, _/_, _%_, _≤_, _<_}
 use native.Mathlib.Omega.{arith}
-use lib.ListN.{length, replicate, take, drop, set, length-append, length-replicate, replicate-append-replicate}
+use lib.ListN.{length, replicate, drop, set, length-append, replicate-append-replicate}
 use lib.Seq.{slice, take-at, drop-at}
 use Rattle.decimal.specs.Place.{put}
 use Rattle.directed.specs.Answer.{sound}

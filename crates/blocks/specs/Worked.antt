@@ -9,7 +9,7 @@ use Rattle.directed.specs.Thousandths.{pair, outside, beyond-range}
 use Rattle.directed.specs.Lift.{interval, faulty}
 use Rattle.directed.specs.Answer.{sound, cause, refusal, given}
 use Rattle.words.specs.Word.{word-bytes}
-use Rattle.blocks.specs.Block.{Record, record-of, record-bytes, records-bytes, contents, byte-sum, block, number-of, records-from, records, summed, all-zero, all-within, headed, laid-out, judgement, begun, full, addable, added, plus, sum-of}
+use Rattle.blocks.specs.Block.{Record, record-of, record-bytes, records-bytes, contents, byte-sum, block, records-from, records, summed, all-zero, all-within, headed, laid-out, judgement, begun, full, addable, added, sum-of}
 
 abbrev one : List Record
 one = record-of 7 4000000000 (pair (negsuc 999) (pos 5)) ∷ []

@@ -1,11 +1,9 @@
 -- The report without a recursion: of the blocks of a file all are accepted, or one is refused and those before it are not. And the report over blocks
 -- that calls of `begin` and `add` made.
-use mathlib.Core.Path.{_≡_, refl, sym, ap, ap₂, subst, _∙_}
-use mathlib.Core.Bool.{Bool, true, false}
+use mathlib.Core.Path.{_≡_, refl, sym, ap, subst, _∙_}
 use mathlib.Core.List.{List, [], _∷_, _++_, append-nil, flatten}
 use mathlib.Core.Logic.{_↔_}
-use Prim.Native.Nat.{ℕ, zero, suc, _+_, _*_, _≤_, _<_}
-use native.Mathlib.Nat.{add-zero}
+use Prim.Native.Nat.{ℕ, suc, _+_, _*_, _≤_, _<_}
 use native.Mathlib.Omega.{arith}
 use lib.IntN.{natAbs}
 use lib.ListN.{length, length-append}
@@ -15,12 +13,12 @@ use Rattle.directed.specs.Result.{Result, value, refusal, at, after}
 use Rattle.directed.specs.ResultLaws.{value-refusal}
 use Rattle.blocks.specs.Block.{Record, records, sum-of}
 use Rattle.blocks.specs.BlockLaws.{count-is, block-length}
-use Rattle.blocks.specs.Causes.{Judged, accepted-judged, judged-holds}
+use Rattle.blocks.specs.Causes.{accepted-judged, judged-holds}
 use Rattle.blocks.specs.Made.{Made, made-block}
 use Rattle.day.specs.File.{blocks-of, judgement-at, accepted-at, all-records, Total, total-of, report}
 use Rattle.day.specs.FileLaws.{Cut, blocks-exactly, Whole, whole-cut}
 use Rattle.day.specs.Tally.{most-records, most-sum}
-use Rattle.day.specs.TallyLaws.{sum-append, Bounded, plus-bounded, sum-bounded, At, in-place, hundred-first, at-is, at-holds}
+use Rattle.day.specs.TallyLaws.{sum-append, Bounded, plus-bounded, sum-bounded, At, in-place, at-is, at-holds}
 
 -- blocks that are accepted in turn, the first at this place, with their records
 pub data Accepted : ℕ → List (List ℕ) → List Record → Type 0 where

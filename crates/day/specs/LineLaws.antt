@@ -1,7 +1,6 @@
 -- The report's line put together: its parts, each behind the last, and how long it is.
-use mathlib.Core.Path.{_≡_, ap, _∙_}
-use mathlib.Core.List.{List, [], _∷_, _++_, append-assoc}
-use Prim.Native.Nat.{ℕ, _+_, _≤_, _<_, _^_}
+use mathlib.Core.List.{List, [], _∷_, _++_}
+use Prim.Native.Nat.{ℕ, _≤_, _<_, _^_}
 use native.Mathlib.Omega.{arith}
 use lib.IntN.{ℤ}
 use lib.ListN.{length, length-append}
@@ -10,8 +9,8 @@ use mir.Val.{SFits}
 use Rattle.decimal.specs.Digits.{decimal}
 use Rattle.decimal.specs.DigitLaws.{decimal-length, width-le}
 use Rattle.decimal.specs.Place.{Placed}
-use Rattle.decimal.specs.PlaceLaws.{Wrote, placed-fitting, fitting-then, fitting-as}
-use Rattle.directed.specs.Thousandths.{Pair, pair}
+use Rattle.decimal.specs.PlaceLaws.{Wrote, placed-fitting, fitting-then}
+use Rattle.directed.specs.Thousandths.{pair}
 use Rattle.directed.specs.Result.{value, refusal}
 use Rattle.text.specs.Text.{text}
 use Rattle.text.specs.TextLaws.{long-longest}

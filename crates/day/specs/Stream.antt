@@ -1,6 +1,6 @@
 -- The stream: however the input is cut into reads, the tally at its end tells the report over the whole of it; and once a block is refused, whatever
 -- follows. One block is all that is held of the input. The premises are what `take` promises.
-use mathlib.Core.Path.{_≡_, refl, sym, ap, ap₂, _∙_}
+use mathlib.Core.Path.{_≡_, refl, sym, ap, _∙_}
 use mathlib.Core.List.{List, [], _∷_, _++_, append-assoc, append-nil, flatten}
 use Prim.Native.Nat.{ℕ, _+_, _≤_, _<_}
 use native.Mathlib.Omega.{arith}

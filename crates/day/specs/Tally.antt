@@ -1,6 +1,6 @@
 -- What is known behind some blocks of a file: how many they are, how many records they have, and the sum of these; or a refusal.
 use mathlib.Core.Bool.{Bool, _&&_}
-use mathlib.Core.List.{List, [], _∷_}
+use mathlib.Core.List.{List}
 use Prim.Native.Nat.{ℕ, suc, _+_}
 use lib.Dec.{leb}
 use lib.IntN.{pos, natAbs}

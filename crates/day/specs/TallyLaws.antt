@@ -1,12 +1,12 @@
 -- The tally of some blocks tells the report over them.
 use mathlib.Core.Path.{_≡_, refl, sym, ap, ap₂, _∙_}
-use mathlib.Core.Bool.{Bool, true, false, not, _&&_}
+use mathlib.Core.Bool.{Bool, true, false, not}
 use mathlib.Core.List.{List, [], _∷_, _++_, append-assoc, append-nil}
 use mathlib.Core.Logic.{_↔_}
-use Prim.Native.Nat.{ℕ, zero, suc, _+_, _*_, _≤_, _<_}
+use Prim.Native.Nat.{ℕ, suc, _+_, _*_, _≤_, _<_}
 use native.Mathlib.Omega.{arith}
 use lib.Dec.{leb, ltb}
-use lib.IntN.{pos, natAbs, _+ℤ_}
+use lib.IntN.{pos, natAbs}
 use lib.ListN.{length, length-append}
 use borrow.Author.Tests.{ltb-true, ltb-false, lt-ltb, le-ltb, le-leb, leb-true, not-true}
 use Rattle.directed.specs.Choice.{if_then_else_, and-true}
@@ -15,15 +15,14 @@ use Rattle.directed.specs.declared.Binary.the-variants.{Sum}
 use Rattle.directed.specs.Operations as operations
 use Rattle.directed.specs.Thousandths.{Pair, pair, exact, beyond-range, rounded}
 use Rattle.directed.specs.Range.{limit, range-ends, inside-size}
-use Rattle.directed.specs.Answer as answers
-use Rattle.directed.specs.Answer.{Judgement, sound, cause, unless}
+use Rattle.directed.specs.Answer.{Judgement, sound, cause}
 use Rattle.directed.specs.Result.{Result, value, refusal, at, after}
 use Rattle.directed_laws.specs.Thousandths.{sum-rounded}
 use Rattle.integers.specs.Sizes.{abs-sum-le}
 use Rattle.blocks.specs.Block.{Record, records, all-within, judgement, plus, sum-of}
 use Rattle.blocks.specs.BlockLaws.{count-is}
 use Rattle.blocks.specs.Causes.{Judged, accepted-judged, judged-holds, judged-is}
-use Rattle.blocks.specs.Scan.{plus-assoc, plus-zero, zero-plus}
+use Rattle.blocks.specs.Scan.{plus-assoc, zero-plus}
 use Rattle.day.specs.File.{judgement-at, accepted-at, all-records, Total, total-of}
 use Rattle.day.specs.Tally.{Count, count, first, most-records, most-sum, possible, counted, step, told}
 

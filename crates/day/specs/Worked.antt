@@ -1,7 +1,6 @@
 -- Reports computed from the definitions, and the longest total.
 use mathlib.Core.Path.{_≡_, refl}
 use mathlib.Core.List.{List, [], _∷_, _++_}
-use Prim.Native.Nat.{ℕ}
 use lib.IntN.{pos, negsuc}
 use lib.ListN.{set}
 use Rattle.directed.specs.Thousandths.{pair, outside, beyond-range}

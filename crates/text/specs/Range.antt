@@ -3,7 +3,7 @@ use mathlib.Core.Path.{_≡_, refl, sym, ap, _∙_}
 use mathlib.Core.Bool.{Bool, true, false}
 use Prim.Native.Nat.{ℕ, zero, suc}
 use lib.Dec.{ltb}
-use lib.IntN.{ℤ, pos, natAbs}
+use lib.IntN.{pos, natAbs}
 use Rattle.directed.specs.Thousandths.{outside}
 pub use Rattle.directed.specs.Range.{limit, outside-size, inside-size, range-ends, sound-range, built-sound}
 use Rattle.text.specs.Form.{signed}

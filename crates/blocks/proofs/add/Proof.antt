@@ -1,5 +1,5 @@
 -- A refusal leaves the block; otherwise a record is appended.
-use mathlib.Core.Path.{_≡_, sym, ap, _∙_}
+use mathlib.Core.Path.{_≡_, sym, ap}
 use borrow.Author.Needs.{needs}
 use Rattle.directed.specs.Answer.{sound}
 use Rattle.blocks.specs.Block.{addable, added, stored, storing}

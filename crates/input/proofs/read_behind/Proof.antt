@@ -1,5 +1,4 @@
 -- The part that is lent lies behind what is held.
-use mathlib.Core.Path.{_≡_}
 use mathlib.Core.List.{_++_}
 use Prim.Native.Nat.{_-_}
 use native.Mathlib.Omega.{arith}

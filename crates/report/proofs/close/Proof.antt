@@ -1,6 +1,5 @@
 -- What is held is taken, unless nothing is.
-use mathlib.Core.Path.{_≡_, sym, _∙_}
-use native.Mathlib.Omega.{arith}
+use mathlib.Core.Path.{sym, _∙_}
 use lib.Seq.{length-take-le}
 use Rattle.day.specs.Stream.{closed-some}
 use borrow.Author.Needs.{needs}

@@ -1,7 +1,7 @@
 -- A refusal decides; otherwise the state is one that the reads led to.
-use mathlib.Core.Path.{_≡_, sym, subst, _∙_}
-use mathlib.Core.Bool.{true, false, false≢true}
-use mathlib.Core.List.{List, []}
+use mathlib.Core.Path.{_≡_, sym, _∙_}
+use mathlib.Core.Bool.{true, false≢true}
+use mathlib.Core.List.{[]}
 use native.Mathlib.Omega.{arith}
 use Rattle.directed.specs.Result.{Result, value, refusal}
 use Rattle.day.specs.Tally.{Count, told}

@@ -1,9 +1,8 @@
 -- Four words, each behind the last.
 use mathlib.Core.Path.{ap}
-use mathlib.Core.List.{_++_, append-assoc}
 use Rattle.decimal.specs.PlaceLaws.{placed-fitting, fitting-then, fitting-as}
 use Rattle.integers.specs.Locals.{plain}
-use Rattle.words.specs.Word.{word-bytes, signed-bytes}
+use Rattle.words.specs.Word.{signed-bytes}
 use Rattle.blocks.specs.Block.{record-bytes}
 use borrow.Author.Needs.{needs}
 use Rattle.blocks.proofs.store.put_record.Statement.{statement}

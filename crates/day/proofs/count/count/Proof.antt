@@ -1,6 +1,6 @@
 -- A count that no file has stays; otherwise by the judgement of the block.
 use mathlib.Core.Path.{_≡_, sym, _∙_}
-use mathlib.Core.Bool.{true, false}
+use mathlib.Core.Bool.{true}
 use mathlib.Core.List.{List}
 use Prim.Native.Nat.{ℕ, _<_}
 use borrow.Author.Needs.{needs}

@@ -1,8 +1,7 @@
 -- The records of a block that is accepted are few, and their sums small.
-use mathlib.Core.Path.{_≡_, sym, ap, ap₂, _∙_}
+use mathlib.Core.Path.{_≡_, sym, ap, _∙_}
 use Prim.Native.Nat.{ℕ, _+_}
 use native.Mathlib.Numerals.{add-one}
-use lib.IntN.{natAbs}
 use Rattle.directed.specs.Result.{value}
 use Rattle.directed.specs.Thousandths.{Pair}
 use Rattle.blocks.specs.Block.{plus}

@@ -1,6 +1,5 @@
 -- The tests in turn.
 use mathlib.Core.Path.{_≡_, sym, ap, _∙_}
-use mathlib.Core.Bool.{_&&_}
 use lib.Dec.{leb}
 use lib.IntN.{natAbs}
 use mir.Syntax.{w64}

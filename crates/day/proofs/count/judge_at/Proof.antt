@@ -1,5 +1,4 @@
 -- The 101st, or the block's own causes.
-use mathlib.Core.Path.{_∙_}
 use borrow.Author.Needs.{needs}
 use borrow.Author.Tests.{lt-ltb, le-ltb}
 use native.Mathlib.Omega.{arith}

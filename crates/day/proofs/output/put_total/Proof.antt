@@ -1,6 +1,5 @@
 -- Number, space, text, byte 10.
 use mathlib.Core.Path.{_≡_, ap₂}
-use native.Mathlib.Omega.{arith}
 use mir.Syntax.{w64}
 use mir.Val.{SFits, toZ, ofZ}
 use Rattle.decimal.specs.PlaceLaws.{placed-as}

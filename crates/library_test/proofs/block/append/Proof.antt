@@ -1,6 +1,6 @@
 -- At most 1024 bytes are held.
 use mathlib.Core.Path.{_≡_}
-use Prim.Native.Nat.{_-_, _≤_, _<_}
+use Prim.Native.Nat.{_≤_}
 use native.Mathlib.Omega.{arith}
 use lib.ListN.{length, length-set}
 use borrow.Author.Needs.{needs}

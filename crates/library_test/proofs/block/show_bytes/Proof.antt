@@ -1,5 +1,5 @@
 -- Each turn passes a run.
-use Prim.Native.Nat.{_-_, _≤_, _<_}
+use Prim.Native.Nat.{_-_, _≤_}
 use lib.ListN.{length}
 use borrow.Author.Needs.{needs}
 use Rattle.library_test.proofs.block.show_bytes.Statement.{statement}

@@ -1,5 +1,5 @@
 -- Each turn passes a byte.
-use Prim.Native.Nat.{_-_, _≤_, _<_}
+use Prim.Native.Nat.{_-_}
 use lib.ListN.{length}
 use borrow.Author.Needs.{needs}
 use Rattle.library_test.proofs.numbers.start.Statement.{statement}
