@@ -147,6 +147,42 @@ O product 4000 2000 -1500 1500
 O product 1000 -1000 -1500 1500
 '''
 
+# ---- library_test: kinds (02, Q-5), one of each and those with a zero end, carrying each kind that there is
+
+KINDS = [(1000, 2000), (2000, 1000), (-2000, -1000), (-1000, 2000), (2000, -1000), (0, 0), (0, 5000), (5000, 0), (-5000, 0), (0, -5000)]
+CARRIED = '''\
+# 2 for either operand, in the place of 2: before 5 and before 4. Where the kinds agree nothing changes.
+O sum 1000 2000 3000 4000 n.
+O sum 1000 2000 3000 4000 .n
+O sum 1000 2000 3000 4000 pp
+O difference 1000 2000 -3000 4000 zz
+O join -1000 1000 0 0 zi
+O meet -1000 1000 0 0 zz
+O product 1000 2000 -1000 4000 pn
+O product 2000000000 2000000000 2000000000 2000000000 pz
+O product -1000 2000 4000 -3000 zi
+O quotient 1000 2000 0 1000 .p
+O quotient 1000 2000 0 1000 pz
+O quotient 1000 2000 1000 2000 .z
+I equation 0 0 2000 4000 6000 8000 ip.
+I equation 0 0 2000 4000 6000 8000 .n.
+I equation 0 0 2000 4000 6000 8000 ..n
+I equation 0 0 2000 4000 6000 8000 zpp
+O equation 0 0 0 1000 2000000001 0 .p.
+write 27 1000 2000 n
+write 27 1000 2000 p
+write 3 0 0 i
+write 3 0 0 z'''
+
+
+def kinds():
+    yield b'# The kind that is carried: 2 where it disagrees with the ends.'
+    for lower, upper in KINDS:
+        for kind in 'pnzi':
+            yield b'dual %d %d %s' % (lower, upper, kind.encode())
+    yield from CARRIED.encode().splitlines()
+
+
 # ---- library_test: texts
 
 READ_IN_FORM = [
@@ -382,7 +418,7 @@ def papers():
     return [line.split(' = ')[0].encode() for line in PAPERS.splitlines()]
 
 
-QUESTIONS = b''.join(line + b'\n' for part in (papers(), OPERATIONS.encode().splitlines(), texts(), lists(), blocks()) for line in part)
+QUESTIONS = b''.join(line + b'\n' for part in (papers(), OPERATIONS.encode().splitlines(), kinds(), texts(), lists(), blocks()) for line in part)
 
 # ---- slip
 

@@ -53,6 +53,15 @@ def at(a, index):
     return a[1] if index > 0 else a[0]
 
 
+def kind(a):
+    """02's Q-5: positive, negative, or holds zero and is proper or improper."""
+    return {1: 'p', -1: 'n', 0: 'z' if proper(a) else 'i'}[sign(a)]
+
+
+def disagree(pairs, kinds):
+    return any(said not in ('.', kind(a)) for a, said in zip(pairs, kinds))
+
+
 def beyond(a):
     return any(not LEAST <= e <= GREATEST for e in a)
 
@@ -139,8 +148,9 @@ def unjudged(way, name, pairs):
     return result
 
 
-def operation(way, name, pairs):
-    refuse(2, any(map(beyond, pairs)))
+def operation(way, name, pairs, kinds=''):
+    """`kinds`: what each pair carries, as far as that is said; `.` for its own."""
+    refuse(2, any(map(beyond, pairs)) or disagree(pairs, kinds))
     return unjudged(way, name, pairs)
 
 
@@ -341,13 +351,14 @@ def report(data):
 BUFFER = 28
 
 
-def ends(pair):
-    return b'%d %d' % pair
+def shown(pair):
+    return b'%d %d %s' % (*pair, kind(pair).encode())
 
 
-def written(pair, room):
+def written(pair, room, kinds):
     """What is told, and the whole buffer, each byte `#` before; only the first `room` bytes of it are lent."""
     try:
+        refuse(2, disagree([pair], kinds))
         text = write_text(pair, room)
         return b'%d %s' % (len(text), text.ljust(BUFFER, b'#'))
     except Refusal as refusal:
@@ -382,21 +393,23 @@ def answer(question):
     if way in OTHER:
         word, _, rest = rest.partition(b' ')
     if word == b'read':
-        return told(lambda: read_text(rest), ends)
+        return told(lambda: read_text(rest), shown)
     if word == b'list':
-        return told(lambda: evaluate(way, bytes.fromhex(rest.decode())), ends)
+        return told(lambda: evaluate(way, bytes.fromhex(rest.decode())), shown)
     if word == b'add':
         fields = rest.split()
         box, line, lower, upper = map(int, fields[:4])
         lent = b''.join(bytes([int(run[:2], 16)]) * int(run[3:], 16) for run in fields[4:])
         return stored(lambda: add_record((box, line, (lower, upper)), lent), lent)
-    numbers = [int(n) for n in rest.split()]
+    fields = rest.decode().split()
+    kinds = fields.pop() if fields[-1].strip('.pnzi') == '' else ''
+    numbers = [int(n) for n in fields]
     if word == b'begin':
         return begun(*numbers)
     if word == b'write':
-        return written(tuple(numbers[1:]), numbers[0])
+        return written(tuple(numbers[1:]), numbers[0], kinds)
     pairs = list(zip(numbers[::2], numbers[1::2]))
-    return told(lambda: operation(way if way in OTHER else OUTWARD, word.decode(), pairs), ends)
+    return told(lambda: operation(way if way in OTHER else OUTWARD, word.decode(), pairs, kinds), shown)
 
 
 def answers(data):

@@ -1,10 +1,10 @@
 -- What is computed on ends is 01's operation, rounded either way: sum, difference, join and meet, and the product.
 use mathlib.Core.Bool.{Bool, true, false, not}
-use mathlib.Core.Path.{_≡_, _∙_, sym, refl, ap, ap₂}
+use mathlib.Core.Path.{_≡_, _∙_, sym, ap, ap₂}
 use lib.IntN.{_+ℤ_, _-ℤ_}
-use Rattle.directed.specs.Answer.{in-range, unjudged-binary, stop}
-use Rattle.directed.specs.Kind.{kind-of}
-use Rattle.directed.specs.KindLaws.{sort-kind}
+use Rattle.directed.specs.Answer.{in-range, unjudged-binary, stored-binary, stop}
+use Rattle.directed.specs.Lift.{pair-of}
+use Rattle.directed.specs.declared.Interval.{Interval}
 use Rattle.directed.specs.Operations as operations
 use Rattle.directed.specs.Thousandths.{Pair, pair}
 use Rattle.directed.specs.declared.Binary.the-variants.{Sum, Difference, Product, Join, Meet}
@@ -18,23 +18,23 @@ use Rattle.directed_laws.specs.Thousandths.{sum-rounded, difference-rounded, jo
 abbrev pub lattice : Bool → Pair → Pair → Pair
 lattice meets a b = pair (extreme meets (a .lower) (b .lower)) (extreme (not meets) (a .upper) (b .upper))
 
-module _ (rounding : Rounding) (a b : Pair) where
-  pub sum-is : in-range (pair (a .lower +ℤ b .lower) (a .upper +ℤ b .upper)) ≡ unjudged-binary rounding Sum a b
-  unfolding unjudged-binary stop operations.binary
-  sum-is = ap in-range (sym (sum-rounded rounding a b))
+module _ (rounding : Rounding) (a b : Interval) where
+  pub sum-is : in-range (pair (a .lower +ℤ b .lower) (a .upper +ℤ b .upper)) ≡ stored-binary rounding Sum a b
+  unfolding stored-binary unjudged-binary stop operations.binary
+  sum-is = ap in-range (sym (sum-rounded rounding (pair-of a) (pair-of b)))
 
-  pub difference-is : in-range (pair (a .lower -ℤ b .upper) (a .upper -ℤ b .lower)) ≡ unjudged-binary rounding Difference a b
-  unfolding unjudged-binary stop operations.binary
-  difference-is = ap in-range (sym (difference-rounded rounding a b))
+  pub difference-is : in-range (pair (a .lower -ℤ b .upper) (a .upper -ℤ b .lower)) ≡ stored-binary rounding Difference a b
+  unfolding stored-binary unjudged-binary stop operations.binary
+  difference-is = ap in-range (sym (difference-rounded rounding (pair-of a) (pair-of b)))
 
-  pub join-is : in-range (lattice false a b) ≡ unjudged-binary rounding Join a b
-  unfolding unjudged-binary stop operations.binary
-  join-is = ap in-range (ap₂ pair (extreme-smaller _ _) (extreme-larger _ _) ∙ sym (join-rounded rounding a b))
+  pub join-is : in-range (lattice false (pair-of a) (pair-of b)) ≡ stored-binary rounding Join a b
+  unfolding stored-binary unjudged-binary stop operations.binary
+  join-is = ap in-range (ap₂ pair (extreme-smaller _ _) (extreme-larger _ _) ∙ sym (join-rounded rounding (pair-of a) (pair-of b)))
 
-  pub meet-is : in-range (lattice true a b) ≡ unjudged-binary rounding Meet a b
-  unfolding unjudged-binary stop operations.binary
-  meet-is = ap in-range (ap₂ pair (extreme-larger _ _) (extreme-smaller _ _) ∙ sym (meet-rounded rounding a b))
+  pub meet-is : in-range (lattice true (pair-of a) (pair-of b)) ≡ stored-binary rounding Meet a b
+  unfolding stored-binary unjudged-binary stop operations.binary
+  meet-is = ap in-range (ap₂ pair (extreme-larger _ _) (extreme-smaller _ _) ∙ sym (meet-rounded rounding (pair-of a) (pair-of b)))
 
-  pub product-is : in-range (thousandths rounding (exact-product (kind-of a) (kind-of b) a b)) ≡ unjudged-binary rounding Product a b
-  unfolding unjudged-binary stop operations.binary
-  product-is = ap in-range (product-rounded rounding (kind-of a) (kind-of b) a b ∙ rw (sort-kind a, sort-kind b) refl)
+  pub product-is : in-range (thousandths rounding (exact-product (a .kind) (b .kind) (pair-of a) (pair-of b))) ≡ stored-binary rounding Product a b
+  unfolding stored-binary
+  product-is = ap in-range (product-rounded rounding (a .kind) (b .kind) (pair-of a) (pair-of b))

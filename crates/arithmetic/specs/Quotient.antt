@@ -5,13 +5,13 @@ use native.Mathlib.Omega.{arith}
 use lib.IntN.{ℤ, pos, negsuc, negℤ}
 use Rattle.directed.specs.declared.Kind.{Kind}
 use Rattle.directed.specs.declared.Rounding.{Rounding}
-use Rattle.directed.specs.Answer.{Outcome, unless, divisor, in-range}
+use Rattle.directed.specs.Answer.{Outcome}
+use Rattle.directed.specs.Answer as answer
 use Rattle.directed.specs.Choice.{if_then_else_}
 use Rattle.directed.specs.Exact.{Exact, ends}
 use Rattle.directed.specs.Fraction.{Fraction, 0ᶠ}
 use Rattle.directed.specs.Kind.{sort-of}
-use Rattle.directed.specs.Operations.{product, reciprocal}
-use Rattle.directed.specs.Thousandths.{Pair, dual, exact, round-down, round-up, rounded}
+use Rattle.directed.specs.Thousandths.{Pair, dual, exact, round-down, round-up}
 use Rattle.arithmetic.specs.Selection.{chosen}
 
 -- n thousandths over d thousandths
@@ -32,4 +32,4 @@ by-free k n c = ratios n (chosen k (dual c))
 
 -- 01's quotient by the kinds that are said of n and of c
 unfoldable pub divided : Rounding → Kind → Pair → Kind → Pair → Outcome Pair
-divided rounding k n by c = unless (divisor (sort-of by)) (in-range (rounded rounding (product (sort-of k) (sort-of by) (exact n) (reciprocal (exact c)))))
+divided rounding k n by c = answer.divided rounding (sort-of k) (exact n) (sort-of by) (exact c)

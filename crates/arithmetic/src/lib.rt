@@ -1,5 +1,5 @@
 // Directed interval arithmetic in thousandths: each operation exact, then rounded once.
-// The functions named unjudged_.. judge their result alone; the others judge what they are given first.
+// The functions named unjudged_.. judge their result alone, and go by the kinds that are carried; the others judge what they are given first.
 ghost use mathlib.Core.Path.{_≡_};
 ghost use Rattle.directed.specs.Lift.{pair-of};
 ghost use Rattle.directed.specs.Answer as answer;
@@ -33,7 +33,7 @@ pub fn unjudged_unary(op: Unary, a: Interval) -> Answer
 }
 
 pub fn unjudged_binary(op: Binary, a: Interval, b: Interval, rounding: Rounding) -> Answer
-    ensures { λ r. ⌜ outcome r ≡ built (answer.unjudged-binary rounding op (pair-of a) (pair-of b)) ⌝ }
+    ensures { λ r. ⌜ outcome r ≡ built (answer.stored-binary rounding op a b) ⌝ }
 {
     match op {
         Binary::Sum => operations::sum(a, b),
@@ -47,12 +47,12 @@ pub fn unjudged_binary(op: Binary, a: Interval, b: Interval, rounding: Rounding)
 
 // The x of a + c × x = b.
 pub fn unjudged_equation(a: Interval, c: Interval, b: Interval, rounding: Rounding) -> Answer
-    ensures { λ r. ⌜ outcome r ≡ built (meaning.unjudged-equation rounding (pair-of a) (pair-of c) (pair-of b)) ⌝ }
+    ensures { λ r. ⌜ outcome r ≡ built (meaning.stored-equation rounding a c b) ⌝ }
 {
     operations::solution(a, c, b, rounding)
 }
 
-// ---- 2 first, where an end that is given is beyond the range
+// ---- 2 first, where an end that is given is beyond the range, or a kind disagrees with its ends
 
 pub fn unary(op: Unary, a: Interval) -> Answer
     ensures { λ r. ⌜ outcome r ≡ built (answer.unary op a) ⌝ }

@@ -4,7 +4,7 @@ ghost use lib.IntN.{negℤ, _+ℤ_, _-ℤ_};
 ghost use Rattle.directed.specs.Thousandths.{pair, dual};
 ghost use Rattle.directed.specs.declared.Binary.the-variants as op;
 ghost use Rattle.directed.specs.Lift.{pair-of};
-ghost use Rattle.directed.specs.Answer.{outcome, built, in-range, unjudged-binary};
+ghost use Rattle.directed.specs.Answer.{outcome, built, in-range, stored-binary};
 ghost use Rattle.directed.specs.Equation as meaning;
 ghost use Rattle.arithmetic.specs.Ends.{extreme};
 ghost use Rattle.arithmetic.specs.Operations.{lattice};
@@ -76,26 +76,29 @@ fn rounded(rounding: Rounding, lower: i64, upper: i64) -> Answer
 }
 
 pub fn product(a: Interval, b: Interval, rounding: Rounding) -> Answer
-    ensures { λ r. ⌜ outcome r ≡ built (unjudged-binary rounding op.Product (pair-of a) (pair-of b)) ⌝ }
+    ensures { λ r. ⌜ outcome r ≡ built (stored-binary rounding op.Product a b) ⌝ }
 {
     let e = products::exact(a, b);
     rounded(rounding, e.lower, e.upper)
 }
 
 pub fn quotient(a: Interval, b: Interval, rounding: Rounding) -> Answer
-    ensures { λ r. ⌜ outcome r ≡ built (unjudged-binary rounding op.Quotient (pair-of a) (pair-of b)) ⌝ }
+    ensures { λ r. ⌜ outcome r ≡ built (stored-binary rounding op.Quotient a b) ⌝ }
 {
+    let kind = a.kind;
+    let by = b.kind;
     let lower = ends::wide(a.lower);
     let upper = ends::wide(a.upper);
-    quotients::divided(rounding, a.kind(), lower, upper, b.kind(), b.lower, b.upper)
+    quotients::divided(rounding, kind, lower, upper, by, b.lower, b.upper)
 }
 
 // (b − dual a) / dual c; c's dual, if zero-free, has the kind of c. No range holds the difference.
 pub fn solution(a: Interval, c: Interval, b: Interval, rounding: Rounding) -> Answer
-    ensures { λ r. ⌜ outcome r ≡ built (meaning.unjudged-equation rounding (pair-of a) (pair-of c) (pair-of b)) ⌝ }
+    ensures { λ r. ⌜ outcome r ≡ built (meaning.stored-equation rounding a c b) ⌝ }
 {
+    let by = c.kind;
     let lower = ends::difference(b.lower, a.lower);
     let upper = ends::difference(b.upper, a.upper);
     let kind = Kind::from_ends(lower, upper);
-    quotients::divided(rounding, kind, lower, upper, c.kind(), c.upper, c.lower)
+    quotients::divided(rounding, kind, lower, upper, by, c.upper, c.lower)
 }

@@ -2,7 +2,6 @@
 ghost use mathlib.Core.Path.{_≡_};
 ghost use Prim.Native.Nat.{_≤_};
 ghost use lib.IntN.{natAbs, _*ℤ_};
-ghost use Rattle.directed.specs.Kind.{kind-of};
 ghost use Rattle.directed.specs.Lift.{pair-of};
 ghost use Rattle.directed.specs.Thousandths.{pair};
 ghost use Rattle.arithmetic.specs.Ends as meaning;
@@ -68,11 +67,13 @@ fn exchanged(e: Ends) -> Ends
     }
 }
 
+// By the kinds that the factors carry.
 pub fn exact(a: Interval, b: Interval) -> Ends
-    ensures { λ r. ⌜ (r ≡ cases.exact-product (kind-of (pair-of a)) (kind-of (pair-of b)) (pair-of a) (pair-of b)) × cases.Sized r ⌝ }
+    ensures { λ r. ⌜ (r ≡ cases.exact-product (a .kind) (b .kind) (pair-of a) (pair-of b)) × cases.Sized r ⌝ }
 {
-    let kind = b.kind();
-    match a.kind() {
+    let own = a.kind;
+    let kind = b.kind;
+    match own {
         Kind::Positive => with_free(kind, a.lower, a.upper, b.lower, b.upper),
         Kind::Negative => with_free(selection::turned(kind), a.lower, a.upper, b.upper, b.lower),
         Kind::ProperZero => with_proper(kind, a.lower, a.upper, b.lower, b.upper),

@@ -11,7 +11,7 @@ use Rattle.directed.specs.declared.Verdict.{Verdict}
 use Rattle.directed.specs.Choice.{and-true}
 use Rattle.directed.specs.Thousandths.{beyond-range}
 use Rattle.directed.specs.Lift.{pair-of}
-use Rattle.directed.specs.Range.{sound-range}
+use Rattle.directed.specs.KindLaws.{sound-parts}
 use Rattle.directed.specs.Answer.{Outcome, value, refusal, Judgement, sound, cause, verdict-of}
 use Rattle.blocks.specs.Block.{Record, record-of, block, number-of, records, all-within, judgement, begun, added, stored, storing}
 use Rattle.blocks.specs.BlockLaws.{count-is, block-number, block-records}
@@ -66,7 +66,7 @@ added-block {box = box} {line = line} {count = count} {d = d} e f (adds j n g) =
     let r = record-of box line (pair-of count) in
     let l = accepted-judged j .2 in
     let c = count-is d in
-    rw (← e, ← f) (is-block (omega (arith, l .few, length-append (records d) (r ∷ []))) (within-snoc (records d) r (l .within) (sound-range count g)) refl)
+    rw (← e, ← f) (is-block (omega (arith, l .few, length-append (records d) (r ∷ []))) (within-snoc (records d) r (l .within) (sound-parts count g .0)) refl)
 
 -- ---- blocks that calls made: one was begun, and each record was added to what the call before had left
 pub data Made : ℕ → List Record → List ℕ → Type 0 where

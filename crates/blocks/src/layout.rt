@@ -73,7 +73,7 @@ fn are_within(n: u8, block: &[u8]) -> bool
     let mut at: usize = 4;
     while 0 < left {
         let ends = ends_at(at, block);
-        if ends.is_faulty() {
+        if ends.is_beyond_range() {
             return false;
         }
         at += 16;

@@ -1,19 +1,23 @@
--- The kind of two ends by tests of them.
-use mathlib.Core.Bool.{cond, _&&_}
-use mathlib.Core.Path.{_≡_, refl}
-use Prim.Native.Nat.{zero, suc}
+-- The kind of two ends, by tests of them, and the kind that an interval carries.
+use borrow.Author.Tests.{eq-eqb, eqb-true}
+use mathlib.Core.Bool.{Bool, true, false, cond, _&&_, _||_, not, true≢false}
+use mathlib.Core.Logic.{_↔_}
+use mathlib.Core.Path.{_≡_, _∙_, sym, refl, ap}
+use Prim.Native.Nat.{ℕ, zero, suc}
 use native.Mathlib.Omega.{arith}
 use lib.IntN.{ℤ, pos, negsuc}
-use lib.Signed.{_≤ℤ_, _<ℤ_, ltZ}
-use Rattle.integers.specs.Locals.{true-lt, true-le, false-lt, false-le, leZ-scaled}
+use lib.Signed.{ltZ, leZ}
+use Rattle.integers.specs.Locals.{true-lt, false-lt, leZ-scaled}
 use Rattle.integers.specs.Parts.{lin}
 use Rattle.directed.specs.declared.Kind.{Kind}
 use Rattle.directed.specs.declared.Kind.the-variants.{Positive, Negative, ProperZero, ImproperZero}
 use Rattle.directed.specs.Choice.{if_then_else_}
 use Rattle.directed.specs.Fraction.{is-positive, is-negative}
 use Rattle.directed.specs.Exact.{⁺, ⁻, Sort, zero-free, holds-zero, sort, direction}
-use Rattle.directed.specs.Thousandths.{Pair, pair, exact}
-use Rattle.directed.specs.Kind.{sort-of, named, kind-of}
+use Rattle.directed.specs.Thousandths.{Pair, pair, exact, beyond-range}
+use Rattle.directed.specs.Kind.{sort-of, named, kind-of, rank}
+use Rattle.directed.specs.Lift.{interval, pair-of, agrees, faulty}
+use Rattle.directed.specs.declared.Interval.{Interval}
 
 -- ---- sorts and kinds name each other
 sort-named : (k : Sort) → sort-of (named k) ≡ k
@@ -26,11 +30,55 @@ pub sort-kind : (p : Pair) → sort-of (kind-of p) ≡ sort (exact p)
 unfolding kind-of
 sort-kind p = sort-named (sort (exact p))
 
--- ---- by tests, in the code's order
+-- ---- the kind that an interval carries, and the kind of its ends
+of-rank : ℕ → Kind
+of-rank zero = Positive
+of-rank (suc zero) = Negative
+of-rank (suc (suc zero)) = ProperZero
+of-rank (suc (suc (suc n))) = ImproperZero
+
+of-rank-back : (k : Kind) → of-rank (rank k) ≡ k
+unfolding of-rank
+of-rank-back Positive = refl
+of-rank-back Negative = refl
+of-rank-back ProperZero = refl
+of-rank-back ImproperZero = refl
+
+pub agrees-iff : (a : Interval) → (agrees a ≡ true) ↔ (a .kind ≡ kind-of (pair-of a))
+unfolding agrees
+agrees-iff a = ((λ e. sym (of-rank-back (a .kind)) ∙ ap of-rank (eqb-true _ _ e) ∙ of-rank-back _), λ e. eq-eqb _ _ (ap rank e))
+
+-- what is built agrees
+pub interval-agrees : (p : Pair) → agrees (interval p) ≡ true
+interval-agrees p = agrees-iff (interval p) .1 refl
+
+-- and what agrees is built of its pair
+pub agrees-built : (a : Interval) → agrees a ≡ true → a ≡ interval (pair-of a)
+agrees-built a e = ap (λ k. record { lower = a .lower; upper = a .upper; kind = k }) (agrees-iff a .0 e)
+
+-- ---- what 2 says
+pub interval-faulty : (p : Pair) → faulty (interval p) ≡ beyond-range p
+unfolding faulty
+interval-faulty p = rw (interval-agrees p) (go (beyond-range p))
+  where
+    go : (k : Bool) → (k || false) ≡ k
+    go true = refl
+    go false = refl
+
+pub sound-parts : (a : Interval) → faulty a ≡ false → (beyond-range (pair-of a) ≡ false) × (agrees a ≡ true)
+unfolding faulty
+sound-parts a e = go (beyond-range (pair-of a)) (agrees a) e
+  where
+    go : (x y : Bool) → (x || not y) ≡ false → (x ≡ false) × (y ≡ true)
+    go true y e = absurd (true≢false e)
+    go false true e = (refl, refl)
+    go false false e = absurd (true≢false e)
+
+-- ---- by tests, in the definition's order
 unfoldable pub by-tests : ℤ → ℤ → Kind
 by-tests l u =
-    if ltZ (pos 0) l then (if ltZ (pos 0) u then Positive else ImproperZero)
-    else (if ltZ l (pos 0) then (if ltZ u (pos 0) then Negative else ProperZero) else (if ltZ u (pos 0) then ImproperZero else ProperZero))
+    if ltZ (pos 0) l && ltZ (pos 0) u then Positive
+    else (if ltZ l (pos 0) && ltZ u (pos 0) then Negative else (if leZ l u then ProperZero else ImproperZero))
 
 above-test : (z : ℤ) → ltZ (pos 0) z ≡ is-positive z
 above-test (pos zero) = refl
@@ -41,25 +89,14 @@ below-test : (z : ℤ) → ltZ z (pos 0) ≡ is-negative z
 below-test (pos n) = false-lt {x = pos n} {y = pos 0} (omega lin)
 below-test (negsuc n) = refl
 
-proper : (l u : ℤ) → l ≤ℤ u → direction (exact (pair l u)) ≡ ⁺
-unfolding direction
-proper l u h = rw (leZ-scaled l u 1000 (omega arith), true-le h) refl
-
-improper : (l u : ℤ) → u <ℤ l → direction (exact (pair l u)) ≡ ⁻
-unfolding direction
-improper l u h = rw (leZ-scaled l u 1000 (omega arith), false-le h) refl
-
 pub kind-tests : (l u : ℤ) → by-tests l u ≡ kind-of (pair l u)
-unfolding by-tests kind-of sort
-kind-tests l u = rw (above-test l, above-test u, below-test l, below-test u) (go l u)
+unfolding by-tests kind-of sort direction
+kind-tests l u =
+    rw (above-test l, above-test u, below-test l, below-test u, leZ-scaled l u 1000 (omega arith))
+    (go (is-positive l && is-positive u) (is-negative l && is-negative u) (leZ l u))
   where
-    go : (l u : ℤ) → cond (is-positive l) (cond (is-positive u) Positive ImproperZero) (cond (is-negative l) (cond (is-negative u) Negative ProperZero) (cond (is-negative u) ImproperZero ProperZero)) ≡ named (cond (is-positive l && is-positive u) (zero-free ⁺) (cond (is-negative l && is-negative u) (zero-free ⁻) (holds-zero (direction (exact (pair l u))))))
-    go (pos zero) (pos zero) = rw (proper (pos zero) (pos zero) (omega lin)) refl
-    go (pos zero) (pos (suc u)) = rw (proper (pos zero) (pos (suc u)) (omega lin)) refl
-    go (pos zero) (negsuc u) = rw (improper (pos zero) (negsuc u) (omega lin)) refl
-    go (pos (suc l)) (pos zero) = rw (improper (pos (suc l)) (pos zero) (omega lin)) refl
-    go (pos (suc l)) (pos (suc u)) = refl
-    go (pos (suc l)) (negsuc u) = rw (improper (pos (suc l)) (negsuc u) (omega lin)) refl
-    go (negsuc l) (pos zero) = rw (proper (negsuc l) (pos zero) (omega lin)) refl
-    go (negsuc l) (pos (suc u)) = rw (proper (negsuc l) (pos (suc u)) (omega lin)) refl
-    go (negsuc l) (negsuc u) = refl
+    go : (x y z : Bool) → cond x Positive (cond y Negative (cond z ProperZero ImproperZero)) ≡ named (cond x (zero-free ⁺) (cond y (zero-free ⁻) (holds-zero (cond z ⁺ ⁻))))
+    go true y z = refl
+    go false true z = refl
+    go false false true = refl
+    go false false false = refl

@@ -9,10 +9,8 @@ use mir.Syntax.{w32}
 use mir.Val.{SFits}
 use borrow.Author.Tests.{ltb-true, ltb-false, lt-ltb, le-ltb}
 use Rattle.integers.specs.Sizes.{fits-abs}
-use Rattle.directed.specs.declared.Interval.{Interval}
 use Rattle.directed.specs.Choice.{or-false}
 use Rattle.directed.specs.Thousandths.{Pair, outside, beyond-range}
-use Rattle.directed.specs.Lift.{pair-of, interval, faulty}
 
 -- how far an end in the range is from zero, at most
 abbrev pub limit : ℕ
@@ -37,12 +35,3 @@ inside-fits e h = fits-abs w32 e (omega (arith, inside-size e h))
 pub range-ends : (a : Pair) → beyond-range a ≡ false → (outside (a .lower) ≡ false) × (outside (a .upper) ≡ false)
 unfolding beyond-range
 range-ends a e = or-false (outside (a .lower)) (outside (a .upper)) e
-
--- what 2 says of an interval in memory, and of one that was just built
-pub sound-range : (a : Interval) → faulty a ≡ false → beyond-range (pair-of a) ≡ false
-unfolding faulty
-sound-range a e = e
-
-pub built-sound : (p : Pair) → faulty (interval p) ≡ beyond-range p
-unfolding faulty
-built-sound p = refl

@@ -5,7 +5,8 @@ use mathlib.Core.Path.{_≡_, _∙_, sym, refl, ap}
 use Rattle.directed.specs.Answer.{Outcome, outcome, built, Judgement, sound, cause, unless, given, divisor, stop, within-range, in-range, unjudged-unary, unjudged-binary, unary, binary, value, refusal}
 use Rattle.directed.specs.Exact.{Exact, Sign, _!_, direction, zero-free, holds-zero, sort, _≋_, ⁺, ⁻}
 use Rattle.directed.specs.Fraction.{above-0, below-0}
-use Rattle.directed.specs.Lift.{interval, pair-of, faulty}
+use Rattle.directed.specs.KindLaws.{interval-faulty}
+use Rattle.directed.specs.Lift.{interval, pair-of}
 use Rattle.directed.specs.Thousandths.{Pair, exact, beyond-range, rounded, other-way}
 use Rattle.directed.specs.declared.Answer.{Answer}
 use Rattle.directed.specs.declared.Binary.{Binary}
@@ -59,14 +60,14 @@ pub divisor-dual : (a : Exact) → divisor (sort (exactly.dual a)) ≡ divisor (
 unfolding sort
 divisor-dual a = rw (and-comm (above-0 (a ! ⁺)) (above-0 (a ! ⁻)), and-comm (below-0 (a ! ⁺)) (below-0 (a ! ⁻))) (same-divisor (above-0 (a ! ⁻) && above-0 (a ! ⁺)) (below-0 (a ! ⁻) && below-0 (a ! ⁺)) (direction (exactly.dual a)) (direction a))
 
--- the interval of a pair with its ends exchanged
+-- the interval of a pair with its ends exchanged: it "gets its kind anew"
 abbrev pub turned : Pair → Interval
 turned p = interval (thousandths.dual p)
 
 pub given-dual : (ps : List Pair) → given (map turned ps) ≡ given (map interval ps)
-unfolding given faulty
+unfolding given
 given-dual [] = refl
-given-dual (p ∷ ps) = rw (dual-range p, given-dual ps) refl
+given-dual (p ∷ ps) = rw (interval-faulty p, interval-faulty (thousandths.dual p), dual-range p, given-dual ps) refl
 
 -- ---- each operation; of duals a join is the dual of the meet
 abbrev pub dual-of : Binary → Binary

@@ -22,6 +22,7 @@ use Rattle.lists.specs.declared.Step.the-variants.{Constant, One, Two}
 use Rattle.lists.specs.Steps.{takes}
 use Rattle.lists.specs.Ways.{turning}
 use Rattle.lists.specs.Lists.{built, Result, value, refusal, Expression, constant, one, two, stepped, at, after, evaluated}
+use Rattle.directed_laws.specs.Stored.{stored-interval}
 use Rattle.engine.specs.Program.{Instruction, Draft, draft, instruction, no-constant, step-constant, turned-at, added}
 use Rattle.engine.specs.Machine.{way-after, ran, Fits, end, step}
 
@@ -222,7 +223,7 @@ ran-two : (k j l : ℕ) (g : Binary) (w : Rounding) (is : List Instruction) (ms 
     → after r (λ x. after q λ y. ran k w (instruction (Two g) no-constant ∷ is) (false ∷ ms) (interval y ∷ interval x ∷ xs))
     ≡ after (after r λ x. after q λ y. at j (unjudged-binary w g x y)) (λ z. ran l w is ms (interval z ∷ xs))
 unfolding ran
-ran-two k j l g w is ms xs (value x) (value y) e h = rw (e, ← h) (after-built k (unjudged-binary w g x y) (λ z. ran (suc k) w is ms (z ∷ xs)))
+ran-two k j l g w is ms xs (value x) (value y) e h = rw (e, ← h, stored-interval w g x y) (after-built k (unjudged-binary w g x y) (λ z. ran (suc k) w is ms (z ∷ xs)))
 ran-two k j l g w is ms xs (value x) (refusal n i) e h = refl
 ran-two k j l g w is ms xs (refusal n i) q e h = refl
 

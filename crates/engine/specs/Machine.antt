@@ -15,20 +15,20 @@ use Rattle.lists.specs.Steps.{takes}
 use Rattle.lists.specs.Lists.{Result, value, at, after}
 use Rattle.engine.specs.Program.{Instruction, no-constant}
 
--- a step on the values that wait, the latest first
+-- a step on the values that wait, the latest first: they "aren't judged again"
 abbrev pub step-outcome : Rounding → Step → Interval → List Interval → answers.Outcome Interval
 step-outcome w Constant p xs = answers.value p
 step-outcome w (One f) p [] = answers.value p
 step-outcome w (One f) p (x ∷ xs) = answers.built (answers.unjudged-unary f (pair-of x))
 step-outcome w (Two g) p [] = answers.value p
 step-outcome w (Two g) p (y ∷ []) = answers.value p
-step-outcome w (Two g) p (y ∷ x ∷ xs) = answers.built (answers.unjudged-binary w g (pair-of x) (pair-of y))
+step-outcome w (Two g) p (y ∷ x ∷ xs) = answers.built (answers.stored-binary w g x y)
 
 -- the same where the values that it takes are a and b, or a alone
 abbrev pub taken-outcome : Rounding → Step → Interval → Interval → Interval → answers.Outcome Interval
 taken-outcome w Constant p a b = answers.value p
 taken-outcome w (One f) p a b = answers.built (answers.unjudged-unary f (pair-of a))
-taken-outcome w (Two g) p a b = answers.built (answers.unjudged-binary w g (pair-of a) (pair-of b))
+taken-outcome w (Two g) p a b = answers.built (answers.stored-binary w g a b)
 
 -- where the last of them stands, if the first stands at n
 abbrev pub last-taken : Step → ℕ → ℕ

@@ -4,9 +4,9 @@ use mathlib.Core.List.{List, [], _∷_, _++_}
 use Prim.Native.Nat.{ℕ, zero, suc, _+_}
 use lib.IntN.{pos}
 use lib.ListN.{take, drop, getD, set}
+use Rattle.directed.specs.declared.Kind.the-variants.{Positive}
 use Rattle.directed.specs.declared.Interval.{Interval}
 use Rattle.directed.specs.Choice.{if_then_else_}
-use Rattle.directed.specs.Thousandths.{pair}
 use Rattle.directed.specs.Lift.{interval}
 use Rattle.lists.specs.declared.Step.{Step}
 use Rattle.lists.specs.declared.Step.the-variants.{Constant, One, Two}
@@ -42,8 +42,9 @@ first-step Constant first k = k
 first-step (One f) first k = first
 first-step (Two g) first k = first
 
+-- what stands where no constant or no value is, by no matter which kind: no run reads it
 abbrev pub no-constant : Interval
-no-constant = interval (pair (pos 0) (pos 0))
+no-constant = record { lower = pos 0; upper = pos 0; kind = Positive }
 
 abbrev pub step-constant : Step → List ℕ → Interval
 step-constant Constant rest = interval (constant-in rest)

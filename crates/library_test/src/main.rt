@@ -8,6 +8,8 @@
 //   O list 00 e8 03 00 00       the list's bytes
 //   begin 512 99                into the first 512 of 520 bytes, all `#` before; the answer shows all 520, in runs: 00*1fb is 1fb times 00
 //   add 7 1 -1000 5 00*200      to the bytes behind box, line and the two ends; the answer shows them all
+// A result is its ends and the kind that it carries: `p` positive, `n` negative, `z` and `i` holding zero and proper or improper. An operand
+// carries the kind of its ends, or what a letter more says, one for each operand: `O sum 1000 2000 -1 1 .p`, with `.` for the first as it is.
 // A refusal is `R` and its number, in a list also the step. A line that begins with `#` is no question.
 mod block;
 mod numbers;
@@ -16,6 +18,7 @@ use directed::Answer;
 use directed::Binary;
 use directed::Cause;
 use directed::Interval;
+use directed::Kind;
 use directed::Rounding;
 use directed::Unary;
 use libc::STDIN_FILENO;
@@ -27,10 +30,21 @@ fn show(bytes: &[u8]) {
     io::write_all(STDOUT_FILENO, bytes);
 }
 
+fn show_kind(kind: Kind) {
+    match kind {
+        Kind::Positive => show(b" p"),
+        Kind::Negative => show(b" n"),
+        Kind::ProperZero => show(b" z"),
+        Kind::ImproperZero => show(b" i"),
+    }
+}
+
 fn show_interval(a: Interval) {
+    let kind = a.kind;
     numbers::print(a.lower);
     show(b" ");
     numbers::print(a.upper);
+    show_kind(kind);
 }
 
 fn show_refusal(cause: Cause) {
@@ -65,9 +79,24 @@ fn show_written(answer: Written) {
     }
 }
 
-// The interval whose ends are in these two fields.
-fn interval(line: &[u8], lower: usize, upper: usize) -> Interval {
-    Interval::new(numbers::read(line, lower), numbers::read(line, upper))
+fn carrying(a: Interval, kind: Kind) -> Interval {
+    Interval {
+        lower: a.lower,
+        upper: a.upper,
+        kind,
+    }
+}
+
+// The interval whose ends are in these two fields, with the kind that a letter says.
+fn interval(line: &[u8], lower: usize, upper: usize, letter: u8) -> Interval {
+    let a = Interval::new(numbers::read(line, lower), numbers::read(line, upper));
+    match letter {
+        b'p' => carrying(a, Kind::Positive),
+        b'n' => carrying(a, Kind::Negative),
+        b'z' => carrying(a, Kind::ProperZero),
+        b'i' => carrying(a, Kind::ImproperZero),
+        _ => a,
+    }
 }
 
 fn unary_of(letter: u8) -> Unary {
@@ -90,23 +119,26 @@ fn binary_of(letter: u8) -> Binary {
 }
 
 fn unary(letter: u8, line: &[u8]) -> Answer {
-    arithmetic::unary(unary_of(letter), interval(line, 1, 2))
+    arithmetic::unary(
+        unary_of(letter),
+        interval(line, 1, 2, numbers::letter(line, 3, 0)),
+    )
 }
 
 fn binary(letter: u8, line: &[u8], rounding: Rounding) -> Answer {
     arithmetic::binary(
         binary_of(letter),
-        interval(line, 2, 3),
-        interval(line, 4, 5),
+        interval(line, 2, 3, numbers::letter(line, 6, 0)),
+        interval(line, 4, 5, numbers::letter(line, 6, 1)),
         rounding,
     )
 }
 
 fn equation(line: &[u8], rounding: Rounding) -> Answer {
     arithmetic::equation(
-        interval(line, 2, 3),
-        interval(line, 4, 5),
-        interval(line, 6, 7),
+        interval(line, 2, 3, numbers::letter(line, 8, 0)),
+        interval(line, 4, 5, numbers::letter(line, 8, 1)),
+        interval(line, 6, 7, numbers::letter(line, 8, 2)),
         rounding,
     )
 }
@@ -129,7 +161,8 @@ fn write_to(a: Interval, room: usize, buffer: &mut [u8]) {
 
 fn write(line: &[u8]) {
     let mut buffer = [b'#'; 28];
-    write_to(interval(line, 2, 3), numbers::size(line, 1), &mut buffer);
+    let a = interval(line, 2, 3, numbers::letter(line, 4, 0));
+    write_to(a, numbers::size(line, 1), &mut buffer);
 }
 
 fn answer_rounded(line: &[u8], rounding: Rounding) {

@@ -93,6 +93,25 @@ fn find(line: &[u8], field: usize) -> Field {
     Field { minus, size }
 }
 
+// The byte at this place of a field; 0 where there is none.
+pub fn letter(line: &[u8], field: usize, place: usize) -> u8 {
+    let mut at: usize = 0;
+    let mut left = place;
+    let mut i: usize = 0;
+    while i < line.len() {
+        let b = line[i];
+        if b != b' ' && at == field {
+            if left == 0 {
+                return b;
+            }
+            left -= 1;
+        }
+        at = next_field(at, b);
+        i += 1;
+    }
+    0
+}
+
 pub fn size(line: &[u8], field: usize) -> usize {
     find(line, field).size as usize
 }
@@ -149,4 +168,3 @@ pub fn line_end(text: &[u8], from: usize) -> usize
     }
     i
 }
-// x

@@ -1,5 +1,6 @@
 -- Of what a function returns whose contract is that of the engine, and from its contract alone: its value, and the exchange of ends.
 use mathlib.Core.Path.{_≡_, refl, sym, ap, _∙_}
+use mathlib.Core.Bool.{true}
 use mathlib.Core.List.{List, []}
 use Prim.Native.Nat.{ℕ}
 use Rattle.directed.specs.declared.Interval.{Interval}
@@ -8,7 +9,8 @@ use Rattle.directed.specs.declared.Rounding.the-variants.{Outward, Inward}
 use Rattle.directed.specs.Exact.{_⊑_}
 use Rattle.directed.specs.Thousandths.{Pair, exact, other-way}
 use Rattle.directed.specs.Tightest.{Toward}
-use Rattle.directed.specs.Lift.{interval, pair-of}
+use Rattle.directed.specs.KindLaws.{interval-agrees}
+use Rattle.directed.specs.Lift.{interval, pair-of, agrees}
 use Rattle.directed_laws.specs.Exchange.{turned}
 use Rattle.lists.specs.declared.ListAnswer.{ListAnswer}
 use Rattle.lists.specs.declared.ListAnswer.the-variants.{Value}
@@ -21,6 +23,10 @@ use Rattle.lists.specs.Exchange.{exchange, exchanged, answer-exchange}
 built-value : (o : Result Pair) {a : Interval} → built o ≡ value a → o ≡ value (pair-of a)
 built-value (value p) {a} e = ap (λ (b : Interval). value (pair-of b)) (let f : interval p ≡ a = cc in f)
 built-value (refusal n k) e = absurd (value-refusal (sym e))
+
+built-agrees : (o : Result Pair) {a : Interval} → built o ≡ value a → agrees a ≡ true
+built-agrees (value p) {a} e = let f : interval p ≡ a = cc in rw f at (interval-agrees p)
+built-agrees (refusal n k) e = absurd (value-refusal (sym e))
 
 -- the interval with its ends exchanged, or the same refusal
 abbrev pub turned-result : Result Interval → Result Interval
@@ -35,6 +41,10 @@ module _ (v steps : ℕ) (w : Rounding) (s : List ℕ) (r : ListAnswer) (contrac
   -- a value handed out is that of the list's steps, on the side asked for
   pub returned-accepted : (a : Interval) → r ≡ Value a → Accepted v steps w s (pair-of a)
   returned-accepted a e = accepted v steps w s (pair-of a) (built-value (answer v steps w s) (sym contract ∙ ap outcome e))
+
+  -- with the kind of its ends
+  pub returned-agrees : (a : Interval) → r ≡ Value a → agrees a ≡ true
+  returned-agrees a e = built-agrees (answer v steps w s) (sym contract ∙ ap outcome e)
 
   -- what the exchanged list returns in the other way
   pub returned-exchange : (r′ : ListAnswer) → outcome r′ ≡ built (answer v steps (other-way w) (exchange s)) → outcome r′ ≡ turned-result (outcome r)

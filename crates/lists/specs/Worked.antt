@@ -15,7 +15,8 @@ use Rattle.directed.specs.Operations as operations
 use Rattle.directed.specs.Operations.{none-free}
 use Rattle.directed.specs.Thousandths as thousandths
 use Rattle.directed.specs.Thousandths.{Pair, pair, dual, outside, beyond-range, round-down, round-up}
-use Rattle.directed.specs.Lift.{interval, faulty}
+use Rattle.directed.specs.Kind.{kind-of}
+use Rattle.directed.specs.Lift.{interval, agrees, faulty}
 use Rattle.directed.specs.Answer as answers
 use Rattle.directed.specs.Answer.{Outcome, binary, unjudged-unary, unjudged-binary, given, stop, divisor, within-range}
 use Rattle.directed.specs.Equation.{unjudged-equation, equation}
@@ -74,7 +75,7 @@ pub worked :
     -- Steps 1.001, 1.001, product, dual, outward: [1.002,1.003]; inward then [1.003,1.002]
     × (listed Outward (step-1·001 ++ (step-1·001 ++ (3 ∷ 6 ∷ []))) ≡ value ⟨ + 1002 ⋯ + 1003 ⟩)
     × (listed Inward (step-1·001 ++ (step-1·001 ++ (3 ∷ 6 ∷ []))) ≡ value ⟨ + 1003 ⋯ + 1002 ⟩)
-unfolding code-of constant-in judgement admitted read evaluated answer binary equation unjudged-unary unjudged-binary unjudged-equation thousandths.unary given faulty stop divisor within-range none-free operations.product operations.binary sort direction smaller larger outside beyond-range round-down round-up floor floor-nat ceiling _+ᶠ_ _-ᶠ_ _*ᶠ_ over
+unfolding code-of constant-in judgement admitted read evaluated answer binary equation unjudged-unary unjudged-binary unjudged-equation thousandths.unary given agrees kind-of faulty stop divisor within-range none-free operations.product operations.binary sort direction smaller larger outside beyond-range round-down round-up floor floor-nat ceiling _+ᶠ_ _-ᶠ_ _*ᶠ_ over
 worked = (refl, refl, (refl, refl), (refl, refl), (refl, refl), (refl, refl), refl, refl, refl, (refl, refl), (refl, refl), (refl, refl), refl, refl)
 
 -- [0,1.001] times [0,1998001.999] is [0,2000000.000999]: outward its upper end leaves the range, inward it does not

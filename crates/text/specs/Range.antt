@@ -3,7 +3,7 @@ use mathlib.Core.Path.{_≡_, refl}
 use mathlib.Core.Bool.{Bool, true, false}
 use Prim.Native.Nat.{ℕ, zero, suc}
 use lib.IntN.{natAbs}
-pub use Rattle.directed.specs.Range.{limit, outside-size, inside-size, range-ends, sound-range, built-sound}
+pub use Rattle.directed.specs.Range.{limit, outside-size, inside-size, range-ends}
 use Rattle.text.specs.Form.{signed}
 
 pub signed-size : (m : Bool) (n : ℕ) → natAbs (signed m n) ≡ n

@@ -15,6 +15,7 @@ use Rattle.directed.specs.declared.Interval.{Interval}
 use Rattle.directed.specs.Thousandths.{Pair, pair, outside, beyond-range}
 use Rattle.directed.specs.Choice.{if_then_else_}
 use Rattle.directed.specs.Lift.{pair-of, interval, faulty}
+use Rattle.directed.specs.KindLaws.{agrees-built, sound-parts}
 use Rattle.directed.specs.Answer.{Outcome, value, refusal, outcome, built, unless, given, sound, cause, within-range}
 use Rattle.decimal.specs.Place.{over}
 use Rattle.decimal.specs.Digits.{digits, width, width-within, decimal}
@@ -25,7 +26,6 @@ use Rattle.text.specs.declared.Written.the-variants.{Length}
 use Rattle.text.specs.Text.{text, end-text, sign-text, size-text, longest}
 use Rattle.text.specs.Form.{pair-form, pair-length, form, value-of}
 use Rattle.text.specs.Answer.{read, told, writing, in-room, leaving, write}
-use Rattle.text.specs.Range.{sound-range}
 use Rattle.text.specs.EndLaws.{both}
 use Rattle.text.specs.TextLaws.{Short, range-short}
 use Rattle.text.specs.Spelling.{Spells, Spells-end}
@@ -229,7 +229,7 @@ module _ (a : Interval) (d : List ℕ) where
       rw (write-buffer (w .0) (w .1), w .2) (take-append-seam t (drop (length t) d))
 
   pub written-reads-back : (n : ℕ) → write a d .answer ≡ value n → read (take n (write a d .buffer)) ≡ value (pair-of a)
-  written-reads-back n e = ap read (written-is n e) ∙ text-reads-back (pair-of a) (sound-range a (write-value-iff n .0 e .0))
+  written-reads-back n e = ap read (written-is n e) ∙ text-reads-back (pair-of a) (sound-parts a (write-value-iff n .0 e .0) .0)
 
 -- the same of what `write` and `read` return, with their contracts as the only premises
 
@@ -241,13 +241,13 @@ pub got-refusal : (s : Outcome Pair) (k : ℕ) → built s ≡ refusal k → s �
 got-refusal (value p) k e = let z : _≡_ {A = ℕ} 0 1 = cc in absurd (omega arith)
 got-refusal (refusal n) k e = let m : n ≡ k = cc in ap refusal m
 
--- a printed pair reads back as the same pair
+-- a printed pair reads back as the same pair, its kind with it
 pub returned-reads-back : (a : Interval) (d l : List ℕ) (w : Written) (n : ℕ) (o : Answer) → writing w l ≡ write a d → w ≡ Length n → outcome o ≡ built (read (take n l))
-    → outcome o ≡ value (interval (pair-of a))
+    → outcome o ≡ value a
 returned-reads-back a d l w n o e f g =
     let b : l ≡ write a d .buffer = ap (λ x. x .buffer) e in
-    let r = written-reads-back a d n (ap (λ x. x .answer) (sym e) ∙ ap told f) in
-    g ∙ ap (λ x. built (read (take n x))) b ∙ ap built r
+    let h : write a d .answer ≡ value n = ap (λ x. x .answer) (sym e) ∙ ap told f in
+    g ∙ ap (λ x. built (read (take n x))) b ∙ ap built (written-reads-back a d n h) ∙ ap value (sym (agrees-built a (sound-parts a (write-value-iff a d n .0 h .0) .1)))
 
 -- the texts for which it is returned
 pub returned-iff : (t : List ℕ) (a : Pair) (o : Answer) → outcome o ≡ built (read t) → (outcome o ≡ value (interval a)) ↔ (Spelled t a × (beyond-range a ≡ false))

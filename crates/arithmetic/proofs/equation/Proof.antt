@@ -1,7 +1,9 @@
--- 2 first, of each interval; then the solution.
+-- 2 first, of each interval; then c's kind agrees, and the solution goes by it.
 use borrow.Author.Needs.{needs}
-use mathlib.Core.Path.{sym, _∙_, refl}
-use Rattle.directed.specs.Answer.{given}
+use mathlib.Core.Path.{sym, _∙_, refl, ap}
+use Rattle.directed.specs.Answer.{given, built}
+use Rattle.directed.specs.KindLaws.{sound-parts}
+use Rattle.directed_laws.specs.Stored.{equation-agrees}
 use Rattle.directed.specs.Equation.{equation}
 use Rattle.arithmetic.proofs.equation.Statement.{statement}
 use Rattle.arithmetic.proofs.equation.Tie as tie
@@ -29,7 +31,8 @@ returns-4 c =
     let b = c .before in
     let d = b .before .before in
     let a = d .before .before in
-    rw (sym (a .before .is-faulty .ensures) ∙ a .if1 .left, sym (d .before .is-faulty2 .ensures) ∙ d .if2 .left, sym (b .before .is-faulty3 .ensures) ∙ b .if3 .left) (c .unjudged-equation .ensures)
+    let g = sym (d .before .is-faulty2 .ensures) ∙ d .if2 .left in
+    rw (sym (a .before .is-faulty .ensures) ∙ a .if1 .left, g, sym (b .before .is-faulty3 .ensures) ∙ b .if3 .left) (c .unjudged-equation .ensures ∙ ap built (equation-agrees _ _ _ _ (sound-parts _ g .1)))
 
 pub equation-spec : {M : Type 1} → statement M
 equation-spec = tie.close (tie.spec (λ c κs. search needs) returns (λ c κs. search needs) returns-2 (λ c κs. search needs) returns-3 (λ c κs. search needs) returns-4)

@@ -3,10 +3,11 @@ use mathlib.Core.Path.{_≡_, refl, sym, ap, _∙_}
 use mathlib.Core.Bool.{not, _&&_}
 use Prim.Native.Nat.{ℕ, _+_, _-_, _*_, _≤_}
 use native.Mathlib.Omega.{arith}
-use Rattle.blocks.specs.Block.{record-at, records-from, all-within}
+use Rattle.blocks.specs.Block.{records-from, all-within}
 use Rattle.blocks.specs.Scan.{within-next, within-done}
-use Rattle.directed.specs.Lift.{faulty}
-use Rattle.directed.specs.Range.{built-sound}
+use Rattle.directed.specs.Lift.{pair-of}
+use Rattle.directed.specs.Thousandths.{beyond-range}
+use Rattle.directed.specs.declared.Interval.{Interval}
 use Rattle.blocks.proofs.layout.are_within.Statement.{statement}
 use Rattle.blocks.proofs.layout.are_within.Tie as tie
 
@@ -17,13 +18,13 @@ abbrev μ-loop : tie.MeasureT-loop
 μ-loop n block left₀ at₀ left at = left
 
 -- what was said of the ends that were read, and the records behind them
-next : (c : tie.After-is-faulty Inv-loop μ-loop) → let l = c .before .before .before .loop in let a = c .before .before .before .before .before .args in
-    all-within (records-from (a .n) 4 (a .block .now)) ≡ (not (c .is-faulty .result) && all-within (records-from (l .left - 1) (l .at + 16) (a .block .now)))
+next : (c : tie.After-is-beyond-range Inv-loop μ-loop) → let l = c .before .before .before .loop in let a = c .before .before .before .before .before .args in
+    all-within (records-from (a .n) 4 (a .block .now)) ≡ (not (c .is-beyond-range .result) && all-within (records-from (l .left - 1) (l .at + 16) (a .block .now)))
 next c =
     let l = c .before .before .before .loop in
     let b = c .before .before .before .before .before .args .block .now in
     sym (l .inv .2) ∙ within-next b (l .left) (l .at) (c .before .before .loop-test .taken)
-    ∙ ap (λ t. not t && all-within (records-from (l .left - 1) (l .at + 16) b)) (sym (c .is-faulty .ensures ∙ ap faulty (c .before .ends-at .ensures) ∙ built-sound (record-at (l .at) b .ends)))
+    ∙ ap (λ t. not t && all-within (records-from (l .left - 1) (l .at + 16) b)) (sym (c .is-beyond-range .ensures ∙ ap (λ (a : Interval). beyond-range (pair-of a)) (c .before .ends-at .ensures)))
 
 returns : tie.Need-returns Inv-loop μ-loop
 returns c = rw (next (c .before), c .if1 .taken)
