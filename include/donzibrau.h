@@ -57,8 +57,8 @@ enum dzb_cause {
     DZB_UNKNOWN_CODE = 6,        /* unknown step code, or letter in a line */
     DZB_SHORT_CONSTANT = 7,      /* fewer than 8 bytes after code 0 */
     DZB_STACK_UNDERFLOW = 8,     /* too few values for a step */
-    DZB_STACK_OVERFLOW = 9,      /* a 17th value */
-    DZB_TOO_MANY_STEPS = 10,     /* a 65th step */
+    DZB_STACK_OVERFLOW = 9,      /* a 17th value, or one beyond the caller's limit */
+    DZB_TOO_MANY_STEPS = 10,     /* a 65th step, or one beyond the caller's limit */
     DZB_NOT_ONE_VALUE = 11,      /* not exactly one value at the end, the empty list included */
     DZB_MALFORMED_LINE = 12,     /* line over 96 bytes, or wrong count of fields */
     DZB_BLOCK_BOUNDS = 13,       /* a block's number above 99, bytes that are not 512, a block that holds 30 records */
@@ -66,7 +66,7 @@ enum dzb_cause {
     DZB_BLOCK_LAYOUT = 15        /* another field of a block breaks the layout, or an end in it is beyond the range */
 };
 
-/* Of a number that dzb_list returned: the refusal number, and the step to which it applies, counted from 0 (for DZB_NOT_ONE_VALUE the
+/* Of a number that dzb_list or dzb_list_within returned: the refusal number, and the step to which it applies, counted from 0 (for DZB_NOT_ONE_VALUE the
  * count of steps read). What the other functions return is the refusal number itself, and its step is 0. */
 static inline uint32_t dzb_number(uint32_t returned) { return returned % 256; }
 static inline uint32_t dzb_step(uint32_t returned) { return returned / 256; }
@@ -114,6 +114,12 @@ uint32_t dzb_write(int32_t lower, int32_t upper, uint8_t *buffer, size_t length,
  * A step is one byte: 0 constant (8 bytes follow: lower, upper, 32-bit two's complement, low byte first), 1 sum, 2 difference, 3 product,
  * 4 negation, 5 opposite, 6 dual, 7 join, 8 meet, 9 quotient. */
 uint32_t dzb_list(const uint8_t *list, size_t length, bool inward, dzb_pair result);
+
+/* The same for a caller with a share of memory of its own: at most `values` values wait at once, and the list has at most `steps` steps; 9 and 10
+ * are judged by these. A limit above DZB_LIST_VALUES or DZB_LIST_STEPS counts as that, and 0 is a limit too. The fare module, which has 6
+ * and 20, calls dzb_list_within(list, length, DZB_OUTWARD, 6, 20, result). What is accepted gives the same result under every wider
+ * limit, and so in dzb_list, which is dzb_list_within at 16 and 64. */
+uint32_t dzb_list_within(const uint8_t *list, size_t length, bool inward, size_t values, size_t steps, dzb_pair result);
 
 /* The answer to a line of the slip program, its byte 10 not among the bytes given: `O` or `I`, one of `A S M D E`, and the pairs, cut at
  * every single space. Both ends of `result` are written. Refused, with nothing written: 12, 6, of each pair 1 or 2, then 5, 4. */

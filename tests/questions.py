@@ -344,10 +344,31 @@ LISTS = [
 ]
 
 
+# 02, Q-6: limits of values and of steps, and a list that is judged by them. The fare module has 6 and 20.
+WITHIN = [
+    ('the limit and one more: of values, of steps', [
+        (6, 20, ONE * 6 + SUM * 5), (6, 20, ONE * 7 + SUM * 6), (6, 20, ONE + NEG * 19), (6, 20, ONE + NEG * 20),
+        (2, 3, ONE + ONE + SUM), (1, 3, ONE + ONE + SUM), (2, 2, ONE + ONE + SUM), (20, 6, ONE * 7 + SUM * 6),
+    ]),
+    ('a limit of 0: the first constant is 9, the first byte is 10, and no list is 11 as ever', [
+        (0, 20, ONE), (6, 0, ONE), (0, 0, ONE), (0, 0, UNKNOWN), (0, 20, UNKNOWN), (0, 20, NEG), (0, 0, b''), (6, 20, b''),
+    ]),
+    ('above 16 or 64 counts as 16 or 64', [
+        (17, 64, ONE * 16 + SUM * 15), (17, 65, ONE * 17), (99, 99, ONE * 17), (16, 65, ONE + NEG * 63), (16, 65, ONE + NEG * 64), (99, 99, ONE + NEG * 64),
+    ]),
+    ('one step with two causes, by the limits: 10 before all; 9 behind 7, 2 and 8', [
+        (1, 1, ONE + ONE), (1, 2, ONE + UNKNOWN), (1, 1, ONE + UNKNOWN), (1, 2, ONE + ONE[:8]), (1, 2, ONE + const(GREATEST + 1)), (1, 9, ONE + SUM),
+    ]),
+]
+
+
 def lists():
     for title, ways, group in LISTS:
         yield b'# ' + title.encode()
         yield from (list_question(way, data).encode() for data in group for way in ways)
+    for title, group in WITHIN:
+        yield b'# Q-6: ' + title.encode()
+        yield from (b'O within %02d %02d %s' % (values, steps, data.hex(' ').encode()) for values, steps, data in group)
 
 
 # ---- library_test: blocks of the day file

@@ -396,6 +396,9 @@ def answer(question):
         return told(lambda: read_text(rest), shown)
     if word == b'list':
         return told(lambda: evaluate(way, bytes.fromhex(rest.decode())), shown)
+    if word == b'within':  # "A limit above 16 or 64 counts as 16 or 64."
+        limits = min(int(rest[:2]), VALUES), min(int(rest[3:5]), STEPS)
+        return told(lambda: evaluate(way, bytes.fromhex(rest[6:].decode()), *limits), shown)
     if word == b'add':
         fields = rest.split()
         box, line, lower, upper = map(int, fields[:4])

@@ -11,7 +11,7 @@ pub struct Function {
     pub causes: &'static [usize],
 }
 
-pub const FUNCTIONS: [Function; 14] = [
+pub const FUNCTIONS: [Function; 15] = [
     Function { name: "dzb_sum", causes: &[0, 2, 4] },
     Function { name: "dzb_difference", causes: &[0, 2, 4] },
     Function { name: "dzb_product", causes: &[0, 2, 4] },
@@ -26,6 +26,7 @@ pub const FUNCTIONS: [Function; 14] = [
     Function { name: "dzb_write", causes: &[0, 2, 3] },
     Function { name: "dzb_list", causes: &[0, 2, 4, 5, 6, 7, 8, 9, 10, 11] },
     Function { name: "dzb_line", causes: &[0, 1, 2, 4, 5, 6, 12] },
+    Function { name: "dzb_list_within", causes: &[0, 2, 4, 5, 6, 7, 8, 9, 10, 11] },
 ];
 
 pub const OPERATIONS: [Operation; 10] = [
@@ -62,6 +63,12 @@ pub enum Case {
     },
     Line {
         line: Vec<u8>,
+    },
+    /// A list by a caller's limits: values that wait, and steps.
+    Within {
+        list: Vec<u8>,
+        way: Way,
+        limits: (usize, usize),
     },
 }
 
@@ -179,6 +186,7 @@ impl Case {
             Case::Write { .. } => 11,
             Case::List { .. } => 12,
             Case::Line { .. } => 13,
+            Case::Within { .. } => 14,
         }
     }
 
@@ -193,9 +201,12 @@ impl Case {
             Case::Read { text } => compare_bytes(paper::read(text), text, library::read),
             Case::Write { ends, room } => compare_write(*ends, *room),
             Case::List { list, way } => {
-                compare_bytes(paper.list(list, *way), list, |held, result| library::list(held, *way, result))
+                compare_bytes(paper.list(list, *way, paper::MOST), list, |held, result| library::list(held, *way, result))
             }
             Case::Line { line } => compare_bytes(paper.line(line), line, library::line),
+            Case::Within { list, way, limits } => {
+                compare_bytes(paper.list(list, *way, *limits), list, |held, result| library::list_within(held, *way, *limits, result))
+            }
         }
     }
 }
@@ -218,6 +229,7 @@ impl fmt::Display for Case {
             Case::Write { ends, room } => write!(f, "{name} [{},{}] into {room} bytes", ends[0], ends[1]),
             Case::List { list, way } => write!(f, "{name} {list:?} {way:?}"),
             Case::Line { line } => write!(f, "{name} \"{}\"", line.escape_ascii()),
+            Case::Within { list, way, limits } => write!(f, "{name} {list:?} {way:?} {limits:?}"),
         }
     }
 }

@@ -396,6 +396,16 @@ fn list(r: &mut Random) -> Vec<u8> {
     }
 }
 
+/// The fare module's, any about the greatest, and far beyond.
+fn limits(r: &mut Random) -> (usize, usize) {
+    match r.below(4) {
+        0 => (6, 20),
+        1 => (r.index(19), r.index(70)),
+        2 => (r.index(7), r.index(20)),
+        _ => (r.one_of(&[0, 15, 16, 17, usize::MAX]), r.one_of(&[0, 63, 64, 65, usize::MAX])),
+    }
+}
+
 // ---- lines
 
 fn valid_line(r: &mut Random) -> Vec<u8> {
@@ -474,7 +484,8 @@ pub fn case(r: &mut Random) -> Case {
         0..=54 => operation_case(r),
         55..=64 => Case::Read { text: text(r) },
         65..=71 => write_case(r),
-        72..=85 => Case::List { list: list(r), way: way(r) },
+        72..=82 => Case::List { list: list(r), way: way(r) },
+        83..=87 => Case::Within { list: list(r), way: way(r), limits: limits(r) },
         _ => Case::Line { line: line(r) },
     }
 }

@@ -167,8 +167,9 @@ impl Paper {
 
     /// "A list: for each step in turn 10, 6, 7, 2, 8, 9; at the end 11; only then 4, at the earliest step to which it applies.", and with 02,
     /// Q-1, 5, "judged together with 4, after 11, the earliest step with either cause deciding".
-    pub fn list(self, list: &[u8], way: Way) -> Answer {
-        match steps_of(list) {
+    /// 02, Q-6: by the caller's limits of values that wait and of steps.
+    pub fn list(self, list: &[u8], way: Way, limits: (usize, usize)) -> Answer {
+        match steps_of(list, limits) {
             Ok(steps) => self.evaluated(&steps, way),
             Err((number, step)) => Answer::Refused { number, step },
         }
@@ -275,15 +276,19 @@ struct Step {
     operands: Vec<usize>,
 }
 
+/// The slip's limits, and the most that any caller's count for.
+pub const MOST: (usize, usize) = (16, 64);
+
 /// The steps of a list that leaves exactly one value, or the refusal number and its step.
-fn steps_of(list: &[u8]) -> Result<Vec<Step>, (u32, u32)> {
+fn steps_of(list: &[u8], limits: (usize, usize)) -> Result<Vec<Step>, (u32, u32)> {
+    let (most_values, most_steps) = (limits.0.min(MOST.0), limits.1.min(MOST.1));
     let mut steps: Vec<Step> = Vec::new();
     let mut waiting: Vec<usize> = Vec::new();
     let mut rest = list;
     while let Some((code, behind)) = rest.split_first() {
         let at = steps.len() as u32;
-        // "A list has at most 64 steps, and at most 16 values wait at once."
-        if at == 64 {
+        // "A list has at most 64 steps, and at most 16 values wait at once."; "A limit above 16 or 64 counts as 16 or 64."
+        if steps.len() == most_steps {
             return Err((10, at));
         }
         rest = behind;
@@ -321,7 +326,7 @@ fn steps_of(list: &[u8]) -> Result<Vec<Step>, (u32, u32)> {
             return Err((8, at));
         }
         let operands = waiting.split_off(waiting.len() - takes);
-        if waiting.len() == 16 {
+        if waiting.len() == most_values {
             return Err((9, at));
         }
         waiting.push(steps.len());

@@ -68,6 +68,7 @@ fn size(case: &Case) -> (usize, u64, u64) {
         Case::Write { ends, room } => (*room, numbers(ends), 0),
         Case::List { list, way } => (list.len(), list_weight(list), turned(way)),
         Case::Line { line } => (bytes(line).0, bytes(line).1, 0),
+        Case::Within { list, way, limits } => (list.len(), list_weight(list) + limits.0.min(99) as u64 + limits.1.min(99) as u64, turned(way)),
     }
 }
 
@@ -139,6 +140,14 @@ fn smaller(case: &Case) -> Vec<Case> {
             found
         }
         Case::Line { line } => smaller_bytes(line).into_iter().map(|line| Case::Line { line }).collect(),
+        Case::Within { list, way, limits } => {
+            let lists = smaller_bytes(list).into_iter().chain(smaller_constants(list));
+            let mut found: Vec<Case> = lists.map(|list| Case::Within { list, way: *way, limits: *limits }).collect();
+            found.push(Case::Within { list: list.clone(), way: Way::Outward, limits: *limits });
+            let nearer = [(limits.0.min(17), limits.1.min(65)), (limits.0.saturating_sub(1), limits.1), (limits.0, limits.1.saturating_sub(1))];
+            found.extend(nearer.map(|limits| Case::Within { list: list.clone(), way: *way, limits }));
+            found
+        }
     }
 }
 

@@ -1,7 +1,7 @@
 //! Document 01, "Values to meet": each is asked of the library and of the reference, so that the reference is held to the paper too.
 
 use crate::case::Case;
-use crate::paper::{Answer, Operation, Paper, Way};
+use crate::paper::{Answer, MOST, Operation, Paper, Way};
 
 type Ends = (i64, i64);
 
@@ -38,17 +38,17 @@ fn at(number: u32, step: u32) -> Answer {
     Answer::Refused { number, step }
 }
 
+/// So many constants, then their sum.
+fn deep(depth: usize) -> Vec<u8> {
+    [repeated(&constant((1, 1)), depth), repeated(&[1], depth - 1)].concat()
+}
+
 #[rustfmt::skip]
 fn values() -> Vec<(Case, Answer)> {
     use Operation::*;
     use Way::*;
     let exact = (1001, 1001);
-    let one = constant((1, 1));
-    let mut deep = repeated(&one, 16);
-    deep.extend(repeated(&[1], 15));
-    let mut deeper = repeated(&one, 17);
-    deeper.extend(repeated(&[1], 16));
-    let mut long = one.clone();
+    let mut long = constant((1, 1));
     long.extend(repeated(&[4], 63));
     let mut longer = long.clone();
     longer.push(255);
@@ -74,10 +74,16 @@ fn values() -> Vec<(Case, Answer)> {
         (operation(Quotient, &[units(1, 1), (0, 1)], Outward), number(5)),
         (Case::Read { text: b"[9999999.000,0.000]".to_vec() }, number(2)),
         (Case::Read { text: b"[10000000.000,0.000]".to_vec() }, number(1)),
-        (Case::List { list: deep, way: Outward }, value((16, 16))),
-        (Case::List { list: deeper, way: Outward }, at(9, 16)),
+        (Case::List { list: deep(16), way: Outward }, value((16, 16))),
+        (Case::List { list: deep(17), way: Outward }, at(9, 16)),
         (Case::List { list: long, way: Outward }, value((-1, -1))),
         (Case::List { list: longer, way: Outward }, at(10, 64)),
+        // 02, Q-6: the fare module's 6 and 20, and no values or no steps at all.
+        (Case::Within { list: deep(6), way: Outward, limits: (6, 20) }, value((6, 6))),
+        (Case::Within { list: deep(7), way: Outward, limits: (6, 20) }, at(9, 6)),
+        (Case::Within { list: deep(1), way: Outward, limits: (0, 20) }, at(9, 0)),
+        (Case::Within { list: deep(1), way: Outward, limits: (6, 0) }, at(10, 0)),
+        (Case::Within { list: Vec::new(), way: Outward, limits: (0, 0) }, at(11, 0)),
         (Case::Line { line: b"O M [1.001,1.001] [1.001,1.001]".to_vec() }, value((1002, 1003))),
         (Case::Line { line: b"I M [1.001,1.001] [1.001,1.001]".to_vec() }, value((1003, 1002))),
         (Case::Line { line: b"O E [0.500,0.600] [2.000,4.000] [6.500,20.600]".to_vec() }, value((3000, 5000))),
@@ -92,7 +98,8 @@ fn of_reference(case: &Case, paper: Paper) -> Answer {
     match case {
         Case::Operation { operation, ends, way } => paper.operation(*operation, &crate::case::pairs(*operation, ends), *way),
         Case::Read { text } => crate::paper::read(text),
-        Case::List { list, way } => paper.list(list, *way),
+        Case::List { list, way } => paper.list(list, *way, MOST),
+        Case::Within { list, way, limits } => paper.list(list, *way, *limits),
         Case::Line { line } => paper.line(line),
         Case::Write { .. } => unreachable!("the paper shows no value for writing alone"),
     }

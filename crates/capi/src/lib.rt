@@ -22,6 +22,7 @@ use directed::Interval;
 use directed::Rounding;
 use directed::Unary;
 use directed::Verdict;
+use lists::Limits;
 use lists::ListAnswer;
 use text::Written;
 
@@ -231,6 +232,24 @@ pub extern "C" fn dzb_list(bytes: &[u8], inward: bool, result: &mut [i32; 2]) ->
     ensures { λ r. ⌜ effect r (now (result .exit)) ≡ effect-of (list.answer 16 64 (way inward) (now (bytes .entry))) (now (result .entry)) ⌝ }
 {
     give_list(engine::evaluate(bytes, rounding(inward)), result)
+}
+
+// The same by a caller's own limits, of values that wait and of steps.
+#[no_mangle]
+pub extern "C" fn dzb_list_within(
+    bytes: &[u8],
+    inward: bool,
+    values: usize,
+    steps: usize,
+    result: &mut [i32; 2],
+) -> u32
+    ensures { λ r. ⌜ effect r (now (result .exit)) ≡ effect-of (list.answer-within (record { values = values; steps = steps }) (way inward) (now (bytes .entry))) (now (result .entry)) ⌝ }
+{
+    let limits = Limits { values, steps };
+    give_list(
+        engine::evaluate_within(bytes, rounding(inward), limits),
+        result,
+    )
 }
 
 // A line without its byte 10: causes 12, 6, then of each pair 1, 2, then 5, 4.

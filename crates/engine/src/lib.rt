@@ -1,10 +1,10 @@
 // Lists of steps: the engine. In which way a step is wanted depends on the steps behind it, so a list is first judged, and it is
 // found where the way turns; then it is run, each step once and in its one way.
 ghost use mathlib.Core.Path.{_≡_};
-ghost use Prim.Native.Nat.{_≤_};
-ghost use Rattle.lists.specs.Lists.{answer, outcome, built};
+ghost use Rattle.lists.specs.Lists.{answer, answer-within, capped, outcome, built};
 use directed::Rounding;
 use directed::Verdict;
+use lists::Limits;
 use lists::ListAnswer;
 
 mod constant;
@@ -13,11 +13,19 @@ mod judge;
 mod machine;
 mod program;
 
-// With a caller's own limits: at most `values` values wait at once, and the list has at most `steps` steps.
-fn evaluate_within(list: &[u8], rounding: Rounding, values: usize, steps: usize) -> ListAnswer
-    requires { ⌜ (values ≤ 16) × (steps ≤ 64) ⌝ }
-    ensures { λ r. ⌜ outcome r ≡ built (answer values steps rounding (now (list .entry))) ⌝ }
+fn capped(limit: usize, most: usize) -> usize
+    ensures { λ r. ⌜ r ≡ capped most limit ⌝ }
 {
+    if most < limit { most } else { limit }
+}
+
+// What a list answers, whatever its bytes are: its value, or one refusal with its step, or with the count of steps read. By a caller's own
+// limits; one above 16 values or 64 steps counts as 16 or 64.
+pub fn evaluate_within(list: &[u8], rounding: Rounding, limits: Limits) -> ListAnswer
+    ensures { λ r. ⌜ outcome r ≡ built (answer-within limits rounding (now (list .entry))) ⌝ }
+{
+    let values = capped(limits.values, 16);
+    let steps = capped(limits.steps, 64);
     let decoded = decode::decode(list, values, steps);
     let verdict = decoded.verdict;
     let program = decoded.program;
@@ -30,9 +38,9 @@ fn evaluate_within(list: &[u8], rounding: Rounding, values: usize, steps: usize)
     }
 }
 
-// What a list answers, whatever its bytes are: its value, or one refusal with its step, or with the count of steps read.
+// The same by the slip's limits.
 pub fn evaluate(list: &[u8], rounding: Rounding) -> ListAnswer
     ensures { λ r. ⌜ outcome r ≡ built (answer 16 64 rounding (now (list .entry))) ⌝ }
 {
-    evaluate_within(list, rounding, 16, 64)
+    evaluate_within(list, rounding, Limits::MOST)
 }

@@ -6,6 +6,7 @@
 //   read [1.000,2.000]
 //   write 27 1000 2000          into the first 27 of 28 bytes, all `#` before; the answer shows all 28
 //   O list 00 e8 03 00 00       the list's bytes
+//   O within 06 20 00 e8 03     the same by a caller's limits, 6 values and 20 steps
 //   begin 512 99                into the first 512 of 520 bytes, all `#` before; the answer shows all 520, in runs: 00*1fb is 1fb times 00
 //   add 7 1 -1000 5 00*200      to the bytes behind box, line and the two ends; the answer shows them all
 // A result is its ends and the kind that it carries: `p` positive, `n` negative, `z` and `i` holding zero and proper or improper. An operand
@@ -23,6 +24,7 @@ use directed::Rounding;
 use directed::Unary;
 use libc::STDIN_FILENO;
 use libc::STDOUT_FILENO;
+use lists::Limits;
 use lists::ListAnswer;
 use text::Written;
 
@@ -144,10 +146,21 @@ fn equation(line: &[u8], rounding: Rounding) -> Answer {
 }
 
 fn list(line: &[u8], rounding: Rounding) {
-    let bytes = numbers::bytes_of(line);
+    let bytes = numbers::bytes_of(line, 7);
     let list = bytes.list;
     let n = bytes.len;
     show_list_answer(engine::evaluate(&list[..n], rounding));
+}
+
+fn within(line: &[u8], rounding: Rounding) {
+    let limits = Limits {
+        values: numbers::size(line, 2),
+        steps: numbers::size(line, 3),
+    };
+    let bytes = numbers::bytes_of(line, 15);
+    let list = bytes.list;
+    let n = bytes.len;
+    show_list_answer(engine::evaluate_within(&list[..n], rounding, limits));
 }
 
 fn write_to(a: Interval, room: usize, buffer: &mut [u8]) {
@@ -172,6 +185,7 @@ fn answer_rounded(line: &[u8], rounding: Rounding) {
     match line[2] {
         b'e' => show_answer(equation(line, rounding)),
         b'l' => list(line, rounding),
+        b'w' => within(line, rounding),
         letter => show_answer(binary(letter, line, rounding)),
     }
 }

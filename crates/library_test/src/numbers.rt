@@ -23,14 +23,15 @@ pub fn byte_of(high: u8, low: u8) -> u8 {
     digit(high) * 16 + digit(low)
 }
 
-// The list's bytes behind `O list `.
-pub fn bytes_of(line: &[u8]) -> Bytes
+// The list's bytes, two hexadecimal digits each, from a place on.
+pub fn bytes_of(line: &[u8], from: usize) -> Bytes
+    requires { ⌜ from ≤ 15 ⌝ }
     ensures { λ r. ⌜ r .len ≤ length (r .list) ⌝ }
 {
     let mut list = [0u8; 1024];
     let mut n: usize = 0;
     while n < 1024 {
-        let at = 3 * n + 7;
+        let at = 3 * n + from;
         if line.len() <= at + 1 {
             return Bytes { list, len: n };
         }

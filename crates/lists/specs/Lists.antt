@@ -18,6 +18,7 @@ use Rattle.lists.specs.declared.Step.{Step}
 use Rattle.lists.specs.declared.Step.the-variants.{Constant, One, Two}
 use Rattle.lists.specs.declared.Code.{Code}
 use Rattle.lists.specs.declared.Code.the-variants.{Known, Unknown}
+use Rattle.lists.specs.declared.Limits.{Limits}
 use Rattle.lists.specs.declared.ListAnswer.{ListAnswer}
 use Rattle.lists.specs.declared.ListAnswer.the-variants.{Value, Refused}
 use Rattle.lists.specs.Steps.{code-of, takes, leaves, follows, is-beyond, constant-in}
@@ -94,3 +95,10 @@ evaluated w (two k g a b) = after (evaluated w a) λ x. after (evaluated w b) λ
 -- `values` values wait at once, and the list has at most `steps` steps
 unfoldable pub answer : ℕ → ℕ → Rounding → List ℕ → Result Pair
 answer values steps w s = after (read values steps 0 [] s) (evaluated w)
+
+-- ---- 02, Q-6: "9 and 10 are judged by the caller's limits"; "A limit above 16 or 64 counts as 16 or 64."
+unfoldable pub capped : ℕ → ℕ → ℕ
+capped most limit = if ltb most limit then most else limit
+
+abbrev pub answer-within : Limits → Rounding → List ℕ → Result Pair
+answer-within limits = answer (capped 16 (limits .values)) (capped 64 (limits .steps))

@@ -2,7 +2,7 @@
 use mathlib.Core.Path.{_≡_, refl, sym, ap, _∙_}
 use mathlib.Core.Bool.{true}
 use mathlib.Core.List.{List, []}
-use Prim.Native.Nat.{ℕ}
+use Prim.Native.Nat.{ℕ, _≤_}
 use Rattle.directed.specs.declared.Interval.{Interval}
 use Rattle.directed.specs.declared.Rounding.{Rounding}
 use Rattle.directed.specs.declared.Rounding.the-variants.{Outward, Inward}
@@ -12,11 +12,13 @@ use Rattle.directed.specs.Tightest.{Toward}
 use Rattle.directed.specs.KindLaws.{interval-agrees}
 use Rattle.directed.specs.Lift.{interval, pair-of, agrees}
 use Rattle.directed_laws.specs.Exchange.{turned}
+use Rattle.lists.specs.declared.Limits.{Limits}
 use Rattle.lists.specs.declared.ListAnswer.{ListAnswer}
 use Rattle.lists.specs.declared.ListAnswer.the-variants.{Value}
-use Rattle.lists.specs.Lists.{Result, value, refusal, outcome, built, Expression, read, answer}
+use Rattle.lists.specs.Lists.{Result, value, refusal, outcome, built, Expression, read, answer, capped, answer-within}
 use Rattle.directed.specs.ResultLaws.{value-refusal}
 use Rattle.lists.specs.ExactValue.{exact-value, Divisible}
+use Rattle.lists.specs.Limits.{accepted-wider, capped-most, capped-wider}
 use Rattle.lists.specs.Containment.{Accepted, accepted}
 use Rattle.lists.specs.Exchange.{exchange, exchanged, answer-exchange}
 
@@ -65,3 +67,18 @@ module _ (v steps : ℕ) (s : List ℕ) (r : ListAnswer) (a : Interval) (is : r 
   -- "the inward value lies in it."
   pub inward-within : outcome r ≡ built (answer v steps Inward s) → exact (pair-of a) ⊑ exact-value t
   inward-within contract = sided Inward contract
+
+-- ---- of what a function returns that takes a caller's limits, by its contract alone
+module _ (m : Limits) (w : Rounding) (s : List ℕ) (r : ListAnswer) (a : Interval) (contract : outcome r ≡ built (answer-within m w s)) (is : r ≡ Value a) where
+  same : (v l : ℕ) → capped 16 (m .values) ≤ v → capped 64 (m .steps) ≤ l → (r′ : ListAnswer) → outcome r′ ≡ built (answer v l w s) → outcome r′ ≡ value a
+  same v l h i r′ contract′ =
+      let p = built-value (answer-within m w s) (sym contract ∙ ap outcome is) in
+      contract′ ∙ ap built (accepted-wider _ v _ l s h i w _ p) ∙ ap built (sym p) ∙ sym contract ∙ ap outcome is
+
+  -- "A list that the fare module accepts gives the same result on the slip": so for any caller
+  pub slip-same : (r′ : ListAnswer) → outcome r′ ≡ built (answer 16 64 w s) → outcome r′ ≡ value a
+  slip-same = same 16 64 (capped-most 16 _) (capped-most 64 _)
+
+  -- and under any limits that are no narrower
+  pub wider-same : (l : Limits) → m .values ≤ l .values → m .steps ≤ l .steps → (r′ : ListAnswer) → outcome r′ ≡ built (answer-within l w s) → outcome r′ ≡ value a
+  wider-same l h i = same _ _ (capped-wider 16 _ _ h) (capped-wider 64 _ _ i)

@@ -8,10 +8,10 @@ use Rattle.library_test.proofs.numbers.bytes_of.Statement.{statement}
 use Rattle.library_test.proofs.numbers.bytes_of.Tie as tie
 
 abbrev Inv-loop : tie.InvT-loop
-Inv-loop line list₀ n₀ list n = (n ≤ length list) × (length list ≡ 1024)
+Inv-loop line from list₀ n₀ list n = (n ≤ length list) × (length list ≡ 1024)
 
 abbrev μ-loop : tie.MeasureT-loop
-μ-loop line list₀ n₀ list n = 1024 - n
+μ-loop line from list₀ n₀ list n = 1024 - n
 
 loop-again : tie.Need-loop-again Inv-loop μ-loop
 loop-again c = (simp length-set (omega arith), simp length-set (omega arith))
