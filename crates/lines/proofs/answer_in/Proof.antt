@@ -9,7 +9,7 @@ use borrow.Author.Needs.{needs}
 use Rattle.decimal.specs.PlaceLaws.{Wrote, placed-fitting, wrote-then}
 use Rattle.directed.specs.Answer.{built}
 use Rattle.lines.specs.Line.{answer}
-use Rattle.lines.specs.FeedLaws.{wrote-within, wrote-front}
+use Rattle.decimal.specs.PlaceLaws.{wrote-within, wrote-front}
 use Rattle.lines.specs.Cut.{Ended-lines, first-line}
 use Rattle.lines.specs.Ended.{line-answer}
 use Rattle.lines.specs.Alone.{unmarked, unmarked-answer, unmarked-line, unmarked-ended}
