@@ -49,6 +49,18 @@ static inline pair solution(bool inward, pair a, pair c, pair b)
     return quotient(inward, (pair){b.lower - a.lower, b.upper - a.upper}, (pair){c.upper, c.lower});
 }
 
+/* 02, Q-7: c holds zero. 16 if no pair of fractions solves c times x = d, 17 if more than one does; else 0, and d over *end is the one. */
+static inline int held(pair c, pair d, int64_t *end)
+{
+    if (c.lower > c.upper)
+        c = (pair){c.upper, c.lower}, d = (pair){d.upper, d.lower};
+    int64_t far = larger(-c.lower, c.upper), near = smaller(-c.lower, c.upper), above = d.upper, below = -d.lower;
+    *end = far == c.upper ? c.upper : c.lower;
+    if (above < 0 || below < 0 || far * above < near * below || far * below < near * above || (far == 0 && above + below > 0))
+        return 16;
+    return far * above == near * below || far * below == near * above ? 17 : 0;
+}
+
 static inline uint8_t *write_number(uint32_t n, uint8_t *to)
 {
     int width = n < 100 ? n < 10 ? 1 : 2 : n < 10000 ? n < 1000 ? 3 : 4 : n < 1000000 ? n < 100000 ? 5 : 6 : 7;

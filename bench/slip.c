@@ -95,8 +95,13 @@ static int answer(const uint8_t *s, pair *result, const uint8_t **end)
         *result = quotient(inward, a, b);
         break;
     default:
-        if (holds_zero(b))
-            return 5;
+        if (holds_zero(b)) {
+            int64_t end;
+            int cause = held(b, (pair){pairs[2].lower - a.lower, pairs[2].upper - a.upper}, &end);
+            if (cause)
+                return cause;
+            b = (pair){end, end};
+        }
         *result = solution(inward, a, b, pairs[2]);
     }
     return is_beyond(*result) ? 4 : 0;

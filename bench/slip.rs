@@ -162,8 +162,26 @@ fn difference(a: Pair, b: Pair) -> Pair {
     Pair { lower: a.lower - b.upper, upper: a.upper - b.lower }
 }
 
+// 02, Q-7: of a c that holds zero, the end that decides; 16 if no pair of fractions solves c times x = d, 17 if more than one does.
+fn deciding(c: Pair, d: Pair) -> Result<i64, u8> {
+    if !is_proper(c) {
+        return deciding(dual(c), dual(d));
+    }
+    let (far, near) = if -c.lower > c.upper { (c.lower, c.upper) } else { (c.upper, c.lower) };
+    let (m, n, above, below) = (far.abs(), near.abs(), d.upper, -d.lower);
+    if above < 0 || below < 0 || m * above < n * below || m * below < n * above || (m == 0 && above + below > 0) {
+        return Err(16);
+    }
+    if m * above == n * below || m * below == n * above { Err(17) } else { Ok(far) }
+}
+
 fn equation(a: Pair, c: Pair, b: Pair, outward: bool) -> Result<Pair, u8> {
-    quotient(difference(b, dual(a)), dual(c), outward)
+    let d = difference(b, dual(a));
+    if sign(c) == 0 {
+        let end = deciding(c, d)?;
+        return quotient(d, Pair { lower: end, upper: end }, outward);
+    }
+    quotient(d, dual(c), outward)
 }
 
 fn answer(line: &[u8]) -> Result<Pair, u8> {

@@ -53,7 +53,7 @@ enum dzb_cause {
     DZB_END_BEYOND_RANGE = 2,    /* a given end beyond the range */
     DZB_SHORT_BUFFER = 3,        /* buffer for a text shorter than that text */
     DZB_RESULT_BEYOND_RANGE = 4, /* a rounded end beyond the range */
-    DZB_ZERO_DIVISOR = 5,        /* divisor, or c, holds zero */
+    DZB_ZERO_DIVISOR = 5,        /* divisor holds zero */
     DZB_UNKNOWN_CODE = 6,        /* unknown step code, or letter in a line */
     DZB_SHORT_CONSTANT = 7,      /* fewer than 8 bytes after code 0 */
     DZB_STACK_UNDERFLOW = 8,     /* too few values for a step */
@@ -63,7 +63,9 @@ enum dzb_cause {
     DZB_MALFORMED_LINE = 12,     /* line over 96 bytes, or wrong count of fields */
     DZB_BLOCK_BOUNDS = 13,       /* a block's number above 99, bytes that are not 512, a block that holds 30 records */
     DZB_BLOCK_CHECKSUM = 14,     /* the sum of a block's bytes differs */
-    DZB_BLOCK_LAYOUT = 15        /* another field of a block breaks the layout, or an end in it is beyond the range */
+    DZB_BLOCK_LAYOUT = 15,       /* another field of a block breaks the layout, or an end in it is beyond the range */
+    DZB_UNSOLVABLE = 16,         /* no pair of fractions solves the equation */
+    DZB_SEVERAL_SOLUTIONS = 17   /* more than one pair of fractions does */
 };
 
 /* Of a number that dzb_list or dzb_list_within returned: the refusal number, and the step to which it applies, counted from 0 (for DZB_NOT_ONE_VALUE the
@@ -90,7 +92,8 @@ uint32_t dzb_product(int32_t a_lower, int32_t a_upper, int32_t b_lower, int32_t 
 /* a / b. Refused: 2, then 5 where b holds zero, then 4. */
 uint32_t dzb_quotient(int32_t a_lower, int32_t a_upper, int32_t b_lower, int32_t b_upper, bool inward, dzb_pair result);
 
-/* The x of a + c times x = b; mind the order of the arguments: a, c, b. Refused: 2, then 5 where c holds zero, then 4. */
+/* The x of a + c times x = b, if exactly one pair of fractions solves it, as where c holds no zero; mind the order of the arguments: a, c, b.
+ * Refused: 2, then, only where c holds zero, 16 if none does or 17 if more than one does, then 4. */
 uint32_t dzb_equation(int32_t a_lower, int32_t a_upper, int32_t c_lower, int32_t c_upper, int32_t b_lower, int32_t b_upper, bool inward,
                       dzb_pair result);
 
@@ -122,7 +125,8 @@ uint32_t dzb_list(const uint8_t *list, size_t length, bool inward, dzb_pair resu
 uint32_t dzb_list_within(const uint8_t *list, size_t length, bool inward, size_t values, size_t steps, dzb_pair result);
 
 /* The answer to a line of the slip program, its byte 10 not among the bytes given: `O` or `I`, one of `A S M D E`, and the pairs, cut at
- * every single space. Both ends of `result` are written. Refused, with nothing written: 12, 6, of each pair 1 or 2, then 5, 4. */
+ * every single space. Both ends of `result` are written. Refused, with nothing written: 12, 6, of each pair 1 or 2, then 5, or for
+ * `E` 16 or 17, then 4. */
 uint32_t dzb_line(const uint8_t *line, size_t length, dzb_pair result);
 
 /* ---- blocks of the day file

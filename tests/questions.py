@@ -61,6 +61,14 @@ read [10000000.000,0.000] = R 1
 {list_question('O', ONE * 17)} = R 9 16
 {list_question('O', ONE + NEG * 63)} = -1000 -1000
 {list_question('O', ONE + NEG * 64)} = R 10 64
+# Document 02, Q-7, and the duals
+O equation 0 0 0 2000 -2000 4000 = -1000 2000
+I equation 0 0 0 2000 -2000 4000 = -1000 2000
+O equation 0 0 0 2000 0 4000 = R 17
+O equation 0 0 0 2000 1000 4000 = R 16
+O equation 0 0 2000 0 4000 -2000 = 2000 -1000
+O equation 0 0 2000 0 4000 0 = R 17
+O equation 0 0 2000 0 4000 1000 = R 16
 # Source document 000: Out[39], [59], [64], [68]; Out[119] as the directed solution; Out[123], refused here; Out[124]; Out[75] and [76]
 O meet -12000 -3000 4000 7000 = 4000 -3000
 O sum 2000 3000 5700 5700 = 7700 8700
@@ -68,7 +76,7 @@ O difference 3100 -2000 -2000 3100 = 0 0
 O quotient -7300 -1000 -1000 -7300 = 1000 1000
 O equation 2000 3000 1000 1000 0 0 = -2000 -3000
 I equation 2000 3000 1000 1000 0 0 = -2000 -3000
-O equation 2000 3000 -1000 1000 0 0 = R 5
+O equation 2000 3000 -1000 1000 0 0 = R 16
 O equation 5100 3000 -7200 -11500 1000 2000 = 86 570
 I equation 5100 3000 -7200 -11500 1000 2000 = 87 569
 # a (b + c) - dual d of In[74] both ways, and its dual from the duals
@@ -115,6 +123,19 @@ O quotient -7000 -7000 2000 2000
 O quotient 1000 2000 1 0
 I quotient 1000 2000 0 1
 I equation 2000 3000 -1000 1000 0 0
+# The equation with such a c: none, exactly one, more than one; c's ends as far from 0, the lower one farther, [0,0]; 16 before 4; the largest products.
+O equation 0 0 -1000 1000 -2000 2000
+O equation 0 0 -1000 1000 -1000 2000
+O equation 1000 1000 -2000 1000 -2000 5000
+O equation 1000 1000 1000 -2000 5000 -2000
+O equation 0 0 0 3000 -1000 2000
+I equation 0 0 0 3000 -1000 2000
+O equation 0 0 0 0 0 0
+O equation 0 0 0 0 0 1
+O equation 0 0 0 1 -2000000000 2000000000
+O equation 0 0 0 1 1 2000000000
+O equation 2000000000 -2000000000 -2000000000 1999999999 -2000000000 2000000000
+O equation 2000000000 -2000000000 -2000000000 2000000000 -2000000000 2000000000
 O product 0 5000 2000 3000
 O product 5000 0 2000 3000
 O product 0 5000 3000 2000
@@ -467,6 +488,8 @@ LINES = [
     # Q-2: shorter figures; the shortest line of an operation; 2 behind the wider form
     b'O A [1.5,2] [0,0]', b'O A [1.50,2.0] [0.0,0.000]', b'O A [0,0] [0,0]', b'O E [0.5,0.6] [2,4] [6.5,20.6]', b'I D [-1,-1] [3,3]', b'O A [2000001,0] [0,0]',
     b'O A [0,0] [0,0] ', b'O A [0,0]  [0,0]', b'O A [0,0][0,0]', b'O A [1.5,2]', b'O E [0,0] [1,1] [-0.5,x]',
+    # Q-7: one, many, none; an improper c; 16 before 4; a quotient keeps 5
+    b'O E [0,0] [0,2] [-2,4]', b'I E [0,0] [0,2] [0,4]', b'O E [0,0] [0,2] [1,4]', b'I E [0,0] [2,0] [4,-2]', b'O E [0,0] [0,0.001] [1,2000000]', b'I D [-2,4] [0,2]',
     # the longest texts, and the edge of the range
     b'O A [-2000000.000,-2000000.000] [0.000,0.000]', b'O A [2000000.000,-2000000.000] [0.000,0.000]',
     PAD,

@@ -127,10 +127,24 @@ def quotient(a, b):
     return product(a, (1 / b[1], 1 / b[0]))
 
 
+def solutions(c, d):
+    """Pairs of fractions x with c x = d, found by trying: none if there is none, one if there is one, more if there are more. In every case of the
+    product an end of c times x is an end of c times an end of x, or the larger or smaller of two such: so the ends of a solution are 0, quotients of
+    an end of d by one of c, or free on one side or within such bounds, and one size beyond them all stands for those that are free."""
+    sizes = {Fraction(0)} | {abs(Fraction(e) / f) for e in d for f in c if f}
+    sizes.add(max(sizes) + 1)
+    ends = sizes | {-size for size in sizes}
+    return [x for x in itertools.product(ends, ends) if product(c, x) == d]
+
+
 def equation(a, c, b):
-    """The x of a + c x = b: (b - dual a) / dual c."""
-    refuse(5, not sign(c))
-    return quotient(difference(b, dual(a)), dual(c))
+    """The x of a + c x = b: (b - dual a) / dual c. Document 02, Q-7: where c holds zero, the one pair that solves it, 16 if none does, 17 if more do."""
+    if sign(c):
+        return quotient(difference(b, dual(a)), dual(c))
+    found = solutions(c, total(b, opposite(a)))
+    refuse(16, not found)
+    refuse(17, len(found) > 1)
+    return found[0]
 
 
 # By name: how many pairs are taken, and the exact operation.

@@ -16,7 +16,7 @@ pub const FUNCTIONS: [Function; 15] = [
     Function { name: "dzb_difference", causes: &[0, 2, 4] },
     Function { name: "dzb_product", causes: &[0, 2, 4] },
     Function { name: "dzb_quotient", causes: &[0, 2, 4, 5] },
-    Function { name: "dzb_equation", causes: &[0, 2, 4, 5] },
+    Function { name: "dzb_equation", causes: &[0, 2, 4, 16, 17] },
     Function { name: "dzb_negation", causes: &[0, 2] },
     Function { name: "dzb_opposite", causes: &[0, 2] },
     Function { name: "dzb_dual", causes: &[0, 2] },
@@ -25,7 +25,7 @@ pub const FUNCTIONS: [Function; 15] = [
     Function { name: "dzb_read", causes: &[0, 1, 2] },
     Function { name: "dzb_write", causes: &[0, 2, 3] },
     Function { name: "dzb_list", causes: &[0, 2, 4, 5, 6, 7, 8, 9, 10, 11] },
-    Function { name: "dzb_line", causes: &[0, 1, 2, 4, 5, 6, 12] },
+    Function { name: "dzb_line", causes: &[0, 1, 2, 4, 5, 6, 12, 16, 17] },
     Function { name: "dzb_list_within", causes: &[0, 2, 4, 5, 6, 7, 8, 9, 10, 11] },
 ];
 

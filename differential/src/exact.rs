@@ -129,7 +129,7 @@ impl Pair {
     }
 
     /// t(a): "+ if proper and − if improper", where "a pair with equal ends is proper".
-    fn direction(self) -> Sign {
+    pub fn direction(self) -> Sign {
         if self.lower <= self.upper {
             Sign::Plus
         } else {

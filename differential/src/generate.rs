@@ -90,6 +90,24 @@ fn clamped(x: i128) -> i64 {
     x.clamp(-RANGE as i128, RANGE as i128) as i64
 }
 
+/// For a c that holds zero, a d that c × x may reach (02, Q-7): so many times c or its negation, where there are many x; or ends on the two sides
+/// of 0 that c's own are, of sizes near each other, or whatever they are.
+fn solvable(c: (i64, i64), r: &mut Random) -> (i64, i64) {
+    let times = r.between(0, 3);
+    let (s, t) = (end(r).abs(), end(r).abs());
+    let d = match r.below(4) {
+        0 => (times * c.0, times * c.1),
+        1 => (-times * c.1, -times * c.0),
+        2 => (-s, s + r.between(-3, 3)),
+        _ => (-s, t),
+    };
+    if c.0 <= c.1 || r.percent(10) {
+        d
+    } else {
+        (d.1, d.0)
+    }
+}
+
 /// The pairs that an operation is given: often such that its result is near the range's edge, or in it where random pairs would not be.
 fn pairs_for(operation: Operation, r: &mut Random) -> [(i64, i64); 3] {
     let near = |x: i64, r: &mut Random| x + r.between(-3, 3);
@@ -113,7 +131,11 @@ fn pairs_for(operation: Operation, r: &mut Random) -> [(i64, i64); 3] {
             if r.percent(88) {
                 p[1] = zero_free(r);
             }
-            if r.percent(60) {
+            let holds_zero = p[1].0.signum() * p[1].1.signum() <= 0;
+            if holds_zero && r.percent(70) {
+                let d = solvable(p[1], r);
+                p[2] = (clamped((p[0].0 + d.0) as i128), clamped((p[0].1 + d.1) as i128));
+            } else if r.percent(60) {
                 let reached = |a: i64, c: i64, x: i64| clamped(a as i128 + c as i128 * x as i128 / 1000);
                 let (x, y) = (target(r), target(r));
                 p[2] = (near(reached(p[0].0, p[1].0, x), r), near(reached(p[0].1, p[1].1, y), r));

@@ -5,6 +5,7 @@ mod containment;
 mod day;
 mod exact;
 mod generate;
+mod held;
 mod library;
 mod paper;
 mod program;
@@ -63,7 +64,7 @@ fn stop(message: &str) -> ! {
 /// Calls of one function, by cause, and how many results were improper.
 #[derive(Clone, Copy, Default)]
 struct Row {
-    causes: [u64; 13],
+    causes: [u64; 18],
     improper: u64,
 }
 
@@ -143,14 +144,16 @@ fn compare_random(seed: u64, comparisons: u64, paper: Paper) -> Result<Counts, F
 
 fn print_counts(counts: &Counts) {
     print!("{:16}{:>11}{:>10}{:>10}", "function", "calls", "result", "improper");
-    for cause in 1..=12 {
+    let met = |cause: &usize| counts.iter().any(|row| row.causes[*cause] > 0);
+    let causes: Vec<usize> = (1..counts[0].causes.len()).filter(met).collect();
+    for cause in &causes {
         print!("{:>9}", format!("R {cause}"));
     }
     println!();
     for (function, row) in FUNCTIONS.iter().zip(counts) {
         print!("{:16}{:>11}{:>10}{:>10}", function.name, row.calls(), row.causes[0], row.improper);
-        for n in &row.causes[1..] {
-            let shown = if *n == 0 { "-".to_string() } else { n.to_string() };
+        for n in causes.iter().map(|cause| row.causes[*cause]) {
+            let shown = if n == 0 { "-".to_string() } else { n.to_string() };
             print!("{shown:>9}");
         }
         println!();
@@ -191,8 +194,9 @@ fn main() {
     }
     let solved = solutions::enumerate().unwrap_or_else(|message| stop(&format!("FAILED: {message}")));
     println!(
-        "demand 3, ends from -4 to 4: {} equations, {} counts found by search ({} improper; {} pairs of thousandths tried)",
-        solved.equations, solved.counts, solved.improper, solved.pairs_tried
+        "demand 3, ends from -4 to 4: {} equations, {} counts found by search ({} improper; {} pairs of thousandths tried); \
+         where c holds zero {} without a solution, {} with one, {} with more",
+        solved.equations, solved.counts, solved.improper, solved.pairs_tried, solved.none, solved.one, solved.several
     );
     let counts = compare_random(options.seed, options.comparisons, CORRECT).unwrap_or_else(|failure| {
         stop(&format!(

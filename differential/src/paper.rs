@@ -2,6 +2,7 @@
 //! the Rattle code and its definitions have no part in it.
 
 use crate::exact::Pair;
+use crate::held::{self, Solutions};
 
 /// "An end is a signed whole number from −2,000,000,000 to 2,000,000,000"
 const RANGE: i128 = 2_000_000_000;
@@ -152,14 +153,21 @@ impl Paper {
                 }
                 self.quotient(way, of(0), of(1))
             }
-            // "Equation a + c × x = b, c zero-free: x = (b − dual a) / dual c, rounded once at the very end."
+            // "Equation a + c × x = b, c zero-free: x = (b − dual a) / dual c, rounded once at the very end."; 02, Q-7: "Solve when exactly one
+            // directed pair of fractions satisfies the equation, rounded as before .. 16 if no pair of fractions solves it and 17 if more
+            // than one does, in the place of 5"
             Operation::Equation => {
                 let (a, c, b) = (of(0), of(1), of(2));
                 if c.sign().is_none() {
-                    return refused(5);
+                    match held::solutions(c, b.sum(a.opposite())) {
+                        Solutions::None => return refused(16),
+                        Solutions::One(x) => x,
+                        Solutions::Several => return refused(17),
+                    }
+                } else {
+                    let left = if self.mistake == Mistake::OrdinaryDifference { a } else { a.dual() };
+                    self.quotient(way, b.difference(left), c.dual())
                 }
-                let left = if self.mistake == Mistake::OrdinaryDifference { a } else { a.dual() };
-                self.quotient(way, b.difference(left), c.dual())
             }
         };
         self.in_range(way, result)

@@ -1,5 +1,5 @@
-//! Demand 3 by enumeration: for every a, c, b with ends from −4 to 4, c zero-free, the count against searches that use no formula
-//! of the solution, of rounding or of division.
+//! Demand 3 by enumeration: for every a, c, b with ends from −4 to 4, the count against searches that use no formula of the solution, of
+//! rounding or of division; where c holds zero (02, Q-7), whether there is none, one or more than one solution too.
 //!
 //! a and b are in thousandths and c in whole units, so that solutions are twelfths of a thousandth: every pair of twelfths is tried
 //! as a solution, and every pair of thousandths near it as a count.
@@ -23,6 +23,10 @@ pub struct Enumerated {
     pub counts: u64,
     pub improper: u64,
     pub pairs_tried: u64,
+    /// Where c holds zero: equations without a solution, with one, with more.
+    pub none: u64,
+    pub one: u64,
+    pub several: u64,
 }
 
 fn ends() -> Vec<Ends> {
@@ -96,20 +100,11 @@ fn count(a: Ends, c: Ends, b: Ends, way: Way) -> Result<Ends, u32> {
 }
 
 pub fn enumerate() -> Result<Enumerated, String> {
-    let mut seen = Enumerated { equations: 0, counts: 0, improper: 0, pairs_tried: 0 };
+    let mut seen = Enumerated { equations: 0, counts: 0, improper: 0, pairs_tried: 0, none: 0, one: 0, several: 0 };
     let mut known: HashMap<(Ends, bool), Ends> = HashMap::new();
     for c in ends() {
         let whole = Pair::new(Fraction::whole(c.0 as i128), Fraction::whole(c.1 as i128));
-        if whole.sign().is_none() {
-            // c holds zero: refused, whatever a and b are.
-            for (a, b) in ends().into_iter().flat_map(|a| ends().into_iter().map(move |b| (a, b))) {
-                seen.equations += 1;
-                if count(a, c, b, Way::Outward) != Err(5) || count(a, c, b, Way::Inward) != Err(5) {
-                    return Err(format!("a {a:?} c {c:?} b {b:?}: c holds zero and is not refused by 5"));
-                }
-            }
-            continue;
-        }
+        let holds_zero = whole.sign().is_none();
         let products = products(whole);
         for a in ends() {
             for b in ends() {
@@ -117,8 +112,16 @@ pub fn enumerate() -> Result<Enumerated, String> {
                 // a + y = b has the one solution y, end by end; c × x = y is looked up among all products.
                 let y = (12 * (b.0 - a.0), 12 * (b.1 - a.1));
                 let solutions = products.get(&y).map_or(&[][..], |x| &x[..]);
+                if holds_zero {
+                    *[&mut seen.none, &mut seen.one, &mut seen.several][solutions.len().min(2)] += 1;
+                }
                 let [x] = solutions else {
-                    return Err(format!("a {a:?} c {c:?} b {b:?} has {} solutions", solutions.len()));
+                    // 16 for none, 17 for more than one; where c is zero-free there is one.
+                    let refused = Err(if solutions.is_empty() { 16 } else { 17 });
+                    if !holds_zero || count(a, c, b, Way::Outward) != refused || count(a, c, b, Way::Inward) != refused {
+                        return Err(format!("a {a:?} c {c:?} b {b:?} has {} solutions", solutions.len()));
+                    }
+                    continue;
                 };
                 for way in [Way::Outward, Way::Inward] {
                     let tried = &mut seen.pairs_tried;

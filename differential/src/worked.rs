@@ -65,6 +65,10 @@ fn values() -> Vec<(Case, Answer)> {
         (operation(Quotient, &[units(-1, -1), units(3, 3)], Outward), value((-334, -333))),
         (operation(Equation, &[(0, 0), units(2, 4), units(6, 8)], Outward), value(units(3, 2))),
         (operation(Equation, &[(0, 0), units(2, 4), units(-4, 8)], Outward), value(units(-1, 2))),
+        // 02, Q-7: c [0, 2] and d [−2, 4], [0, 4], [1, 4]
+        (operation(Equation, &[(0, 0), units(0, 2), units(-2, 4)], Outward), value(units(-1, 2))),
+        (operation(Equation, &[(0, 0), units(0, 2), units(0, 4)], Outward), number(17)),
+        (operation(Equation, &[(0, 0), units(0, 2), units(1, 4)], Outward), number(16)),
         (operation(Difference, &[units(2, 5), units(5, 2)], Outward), value((0, 0))),
         (Case::List { list: product_dual, way: Outward }, value((1002, 1003))),
         (operation(Product, &[units(2000, 2000), units(1000, 1000)], Outward), value((2_000_000_000, 2_000_000_000))),

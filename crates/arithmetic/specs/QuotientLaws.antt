@@ -1,4 +1,4 @@
--- The quotients of ends that the kinds pick are 01's quotient and 01's equation, rounded once.
+-- The quotients of ends that the kinds pick are 01's quotient, rounded once.
 use mathlib.Core.Bool.{Bool, true, false, not}
 use mathlib.Core.Path.{_≡_, sym, refl, ap}
 use Prim.Native.Nat.{zero, suc, _*_}
@@ -9,13 +9,11 @@ use Rattle.integers.specs.Laws.{negℤ-*ℤ}
 use Rattle.integers.specs.Parts.{is-diff, diffs}
 use Rattle.directed.specs.Answer.{divisor, in-range, refusal, stored-binary}
 use Rattle.directed.specs.Answer as answer
-use Rattle.directed.specs.Equation.{rest, stored-equation}
 use Rattle.directed.specs.Lift.{pair-of}
 use Rattle.directed.specs.declared.Interval.{Interval}
 use Rattle.directed.specs.Exact.{_≋_, ⁺, ⁻, zero-free}
 use Rattle.directed.specs.Fraction.{_≈_, _/1000, _*ᶠ_, over, 1/_}
-use Rattle.directed.specs.Kind.{kind-of, sort-of}
-use Rattle.directed.specs.KindLaws.{sort-kind}
+use Rattle.directed.specs.Kind.{sort-of}
 use Rattle.directed.specs.Operations.{product, reciprocal}
 use Rattle.directed.specs.Thousandths.{Pair, pair, dual, exact, round-down, round-up, rounded}
 use Rattle.directed.specs.declared.Binary.the-variants.{Quotient}
@@ -99,12 +97,8 @@ module _ (n c : Pair) where
     unfolding divided answer.divided divisor
     improper-divided = refl
 
--- ---- the quotient and the equation by the kinds that are carried
+-- ---- the quotient by the kinds that are carried
 module _ (rounding : Rounding) where
   pub quotient-stored : (a b : Interval) → divided rounding (a .kind) (pair-of a) (b .kind) (pair-of b) ≡ stored-binary rounding Quotient a b
   unfolding divided stored-binary
   quotient-stored a b = refl
-
-  pub equation-stored : (a c b : Interval) → divided rounding (kind-of (rest (pair-of a) (pair-of b))) (rest (pair-of a) (pair-of b)) (c .kind) (dual (pair-of c)) ≡ stored-equation rounding a c b
-  unfolding divided stored-equation
-  equation-stored a c b = rw (sort-kind (rest (pair-of a) (pair-of b))) refl

@@ -18,8 +18,10 @@ mod operations;
 mod products;
 mod quotients;
 mod selection;
+mod solutions;
 
-// ---- 5 where a divisor holds zero, 4 where an end of the result is beyond the range
+// ---- 5 where a divisor holds zero; 16 and 17 where no, or more than one, pair of fractions solves the equation; 4 where an end of the result is
+// beyond the range
 
 // 01's opposite is the additive inverse of the directed sum.
 pub fn unjudged_unary(op: Unary, a: Interval) -> Answer
@@ -75,8 +77,9 @@ pub fn binary(op: Binary, a: Interval, b: Interval, rounding: Rounding) -> Answe
     unjudged_binary(op, a, b, rounding)
 }
 
+// Computed, and by meaning: what solves it, over all pairs of fractions (these are one: directed_laws, Equation.antt, `answered-iff`).
 pub fn equation(a: Interval, c: Interval, b: Interval, rounding: Rounding) -> Answer
-    ensures { λ r. ⌜ outcome r ≡ built (meaning.equation rounding a c b) ⌝ }
+    ensures { λ r. ⌜ (outcome r ≡ built (meaning.equation rounding a c b)) × meaning.Answered rounding a c b (outcome r) ⌝ }
 {
     if a.is_faulty() {
         return Answer::Refused(Cause::EndBeyondRange);

@@ -14,9 +14,9 @@ use crate::division;
 use crate::ends;
 use crate::products;
 use crate::quotients;
+use crate::solutions;
 use directed::Answer;
 use directed::Interval;
-use directed::Kind;
 use directed::Rounding;
 
 pub fn negated(lower: i32, upper: i32) -> Answer
@@ -92,13 +92,12 @@ pub fn quotient(a: Interval, b: Interval, rounding: Rounding) -> Answer
     quotients::divided(rounding, kind, lower, upper, by, b.lower, b.upper)
 }
 
-// (b − dual a) / dual c; c's dual, if zero-free, has the kind of c. No range holds the difference.
+// By the kind that c carries; no range holds the difference of b and the dual of a.
 pub fn solution(a: Interval, c: Interval, b: Interval, rounding: Rounding) -> Answer
     ensures { λ r. ⌜ outcome r ≡ built (meaning.stored-equation rounding a c b) ⌝ }
 {
     let by = c.kind;
     let lower = ends::difference(b.lower, a.lower);
     let upper = ends::difference(b.upper, a.upper);
-    let kind = Kind::from_ends(lower, upper);
-    quotients::divided(rounding, kind, lower, upper, by, c.upper, c.lower)
+    solutions::solved_by(rounding, lower, upper, by, c.lower, c.upper)
 }

@@ -55,7 +55,7 @@ fn give(answer: Answer, result: &mut [i32; 2]) -> u32
     }
 }
 
-// ---- the operations and the equation: causes 2, 5, 4. The ends of a are al and au, those of b and c named likewise.
+// ---- the operations and the equation: causes 2, 5 or for the equation 16 or 17, 4. The ends of a are al and au, those of b and c named likewise.
 
 fn one(op: Unary, lower: i32, upper: i32, result: &mut [i32; 2]) -> u32
     ensures { λ r. ⌜ effect r (now (result .exit)) ≡ effect-of (stepless (answer.unary op (interval (pair lower upper)))) (now (result .entry)) ⌝ }
@@ -252,7 +252,7 @@ pub extern "C" fn dzb_list_within(
     )
 }
 
-// A line without its byte 10: causes 12, 6, then of each pair 1, 2, then 5, 4.
+// A line without its byte 10: causes 12, 6, then of each pair 1, 2, then 5 or for E 16 or 17, then 4.
 #[no_mangle]
 pub extern "C" fn dzb_line(bytes: &[u8], result: &mut [i32; 2]) -> u32
     ensures { λ r. ⌜ effect r (now (result .exit)) ≡ effect-of (stepless (line.answer (now (bytes .entry)))) (now (result .entry)) ⌝ }

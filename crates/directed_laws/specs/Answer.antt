@@ -16,7 +16,7 @@ use Rattle.directed.specs.Tightest.{Tightest}
 use Rattle.directed.specs.declared.Answer.{Answer}
 use Rattle.directed.specs.declared.Answer.the-variants.{Value, Refused}
 use Rattle.directed.specs.declared.Cause.{Cause}
-use Rattle.directed.specs.declared.Cause.the-variants.{Malformed, EndBeyondRange, ShortBuffer, ResultBeyondRange, ZeroDivisor, UnknownCode, ShortConstant, StackUnderflow, StackOverflow, TooManySteps, NotOneValue, MalformedLine, BlockBounds, BlockChecksum, BlockLayout}
+use Rattle.directed.specs.declared.Cause.the-variants.{Malformed, EndBeyondRange, ShortBuffer, ResultBeyondRange, ZeroDivisor, UnknownCode, ShortConstant, StackUnderflow, StackOverflow, TooManySteps, NotOneValue, MalformedLine, BlockBounds, BlockChecksum, BlockLayout, Unsolvable, SeveralSolutions}
 use Rattle.directed.specs.declared.Interval.{Interval}
 use Rattle.directed.specs.declared.Rounding.{Rounding}
 use Rattle.directed_laws.specs.Rounding.{rounded-tightest}
@@ -25,7 +25,7 @@ use Rattle.directed_laws.specs.Rounding.{rounded-tightest}
 of-number : ℕ → Cause
 of-number n =
     getD
-    (Malformed ∷ EndBeyondRange ∷ ShortBuffer ∷ ResultBeyondRange ∷ ZeroDivisor ∷ UnknownCode ∷ ShortConstant ∷ StackUnderflow ∷ StackOverflow ∷ TooManySteps ∷ NotOneValue ∷ MalformedLine ∷ BlockBounds ∷ BlockChecksum ∷ BlockLayout ∷ [])
+    (Malformed ∷ EndBeyondRange ∷ ShortBuffer ∷ ResultBeyondRange ∷ ZeroDivisor ∷ UnknownCode ∷ ShortConstant ∷ StackUnderflow ∷ StackOverflow ∷ TooManySteps ∷ NotOneValue ∷ MalformedLine ∷ BlockBounds ∷ BlockChecksum ∷ BlockLayout ∷ Unsolvable ∷ SeveralSolutions ∷ [])
     (n - 1) Malformed
 
 of-number-back : (k : Cause) → of-number (number k) ≡ k
@@ -45,6 +45,8 @@ of-number-back MalformedLine = refl
 of-number-back BlockBounds = refl
 of-number-back BlockChecksum = refl
 of-number-back BlockLayout = refl
+of-number-back Unsolvable = refl
+of-number-back SeveralSolutions = refl
 
 pub number-injective : (j k : Cause) → number j ≡ number k → j ≡ k
 number-injective j k e = sym (of-number-back j) ∙ ap of-number e ∙ of-number-back k
@@ -92,6 +94,9 @@ refusal-value e = let z : _≡_ {A = ℕ} 0 1 = cc in omega arith
 
 pub sound-cause : {n : ℕ} → sound ≡ cause n → ⊥
 sound-cause e = let z : _≡_ {A = ℕ} 0 1 = cc in omega arith
+
+pub cause-clash : {m n : ℕ} → cause m ≡ cause n → eqb m n ≡ false → ⊥
+cause-clash {m} {n} e h = let f : m ≡ n = cc in true≢false (sym (eq-eqb m n f) ∙ h)
 
 -- ---- and so: each number exactly if its cause holds and none before it does
 module _ (rounding : Rounding) (operands : List Interval) (stop : Judgement) (x : Exact) (between : Between stop) where

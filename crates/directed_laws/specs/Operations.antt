@@ -19,7 +19,7 @@ use Rattle.directed_laws.specs.Answer.{judged, Between, Exactly, judged-
 use Rattle.directed_laws.specs.Thousandths.{unary-rounded, unary-range, join-rounded, meet-rounded, join-range, meet-range}
 
 -- ---- what stops an operation is 5 or nothing
-pub divisor-5 : (k : Sort) {n : ℕ} → divisor k ≡ cause n → 5 ≡ n
+divisor-5 : (k : Sort) {n : ℕ} → divisor k ≡ cause n → 5 ≡ n
 unfolding divisor
 divisor-5 (zero-free s) e = absurd (sound-cause e)
 divisor-5 (holds-zero t) e = cc
@@ -35,9 +35,6 @@ stop-5 Meet k e = absurd (sound-cause e)
 
 sound-between : Between sound
 sound-between n e = absurd (sound-cause e)
-
-pub divisor-between : (k : Sort) → Between (divisor k)
-divisor-between k n e = rw (← divisor-5 k e) (refl, refl)
 
 stop-between : (op : Binary) (k : Sort) → Between (stop op k)
 stop-between op k n e = rw (← stop-5 op k e) (refl, refl)

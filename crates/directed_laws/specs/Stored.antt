@@ -2,15 +2,16 @@
 -- what 2 lets pass.
 use mathlib.Core.Bool.{true}
 use mathlib.Core.Path.{_≡_, _∙_, sym, refl, ap}
-use Rattle.directed.specs.Answer.{Outcome, value, refusal, outcome, built, unless, divisor, stop, in-range, divided, unjudged-binary, stored-binary}
-use Rattle.directed.specs.Equation.{rest, unjudged-equation, stored-equation}
-use Rattle.directed.specs.Exact.{Sort, sort, zero-free, holds-zero}
+use Rattle.directed.specs.Answer.{Outcome, value, refusal, outcome, built, Judgement, unless, divisor, stop, in-range, divided, unjudged-binary, stored-binary}
+use Rattle.directed.specs.Equation.{solution, rest, unjudged-equation, deciding-sort, solved-by, stored-equation}
+use Rattle.directed.specs.Exact.{Sign, Sort, sort, zero-free, holds-zero}
 use Rattle.directed.specs.Exact as exactly
 use Rattle.directed.specs.Kind.{sort-of}
 use Rattle.directed.specs.KindLaws.{sort-kind, agrees-iff, interval-agrees}
 use Rattle.directed.specs.Lift.{interval, pair-of, agrees}
-use Rattle.directed.specs.Operations.{_⊟_, _⊘_, product, reciprocal}
+use Rattle.directed.specs.Operations.{_⊘_, product, reciprocal}
 use Rattle.directed.specs.Operations as operations
+use Rattle.directed.specs.Solutions.{solvable, deciding}
 use Rattle.directed.specs.Thousandths.{Pair, dual, exact, rounded}
 use Rattle.directed.specs.declared.Answer.{Answer}
 use Rattle.directed.specs.declared.Answer.the-variants.{Value}
@@ -22,6 +23,7 @@ use Rattle.directed_laws.specs.Answer.{refusal-value}
 use Rattle.directed_laws.specs.Fraction.{≈-refl, ≈-sym}
 use Rattle.directed_laws.specs.Product.{product-cong}
 use Rattle.directed_laws.specs.Rounding.{rounded-cong}
+use Rattle.directed_laws.specs.Solutions.{Means, only, none, several, solutions-mean}
 use Rattle.directed_laws.specs.Solution.{reciprocal-free, reciprocal-sort}
 use Rattle.directed_laws.specs.Thousandths.{difference-exact}
 
@@ -51,17 +53,30 @@ module _ (rounding : Rounding) where
   stored-interval op p q = stored-agrees op (interval p) (interval q) (interval-agrees p) (interval-agrees q)
 
   -- ---- the equation
-  equation-divided : (a c b : Pair) → divided rounding (sort (exact (rest a b))) (exact (rest a b)) (sort (exact c)) (exactly.dual (exact c)) ≡ unjudged-equation rounding a c b
-  unfolding divided unjudged-equation divisor
-  equation-divided a c b = go (sort (exact c)) refl
+  free-divided : (a p b : Pair) (s : Sign) → sort (exact p) ≡ zero-free s → divided rounding (sort (exact (rest a b))) (exact (rest a b)) (zero-free s) (exactly.dual (exact p)) ≡ in-range (rounded rounding (solution (exact a) (exact p) (exact b)))
+  unfolding divided divisor
+  free-divided a p b s e = rw (← reciprocal-free (exact p) s e) (ap in-range (rounded-cong rounding _ _ (product-cong _ (reciprocal (exactly.dual (exact p))) _ (reciprocal (exactly.dual (exact p))) (λ i. ≈-sym (difference-exact b (dual a) i)) (λ i. ≈-refl _))))
+
+  deciding-sort-is : (c : Pair) → deciding-sort (sort (exact c)) (deciding (sort (exact c)) c) ≡ sort (exact (deciding (sort (exact c)) c))
+  unfolding deciding
+  deciding-sort-is c = go (sort (exact c)) refl
     where
-      go : (k : Sort) → sort (exact c) ≡ k → unless (divisor k) (in-range (rounded rounding (product (sort (exact (rest a b))) k (exact (rest a b)) (reciprocal (exactly.dual (exact c)))))) ≡ unless (divisor k) (in-range (rounded rounding ((exact b ⊟ exactly.dual (exact a)) ⊘ exactly.dual (exact c))))
+      go : (k : Sort) → sort (exact c) ≡ k → deciding-sort k (deciding k c) ≡ sort (exact (deciding k c))
+      go (zero-free s) e = sym e
       go (holds-zero t) e = refl
-      go (zero-free s) e = rw (← reciprocal-free (exact c) s e) (ap in-range (rounded-cong rounding _ _ (product-cong _ (reciprocal (exactly.dual (exact c))) _ (reciprocal (exactly.dual (exact c))) (λ i. ≈-sym (difference-exact b (dual a) i)) (λ i. ≈-refl _))))
+
+  equation-solved : (a c b : Pair) → solved-by rounding (sort (exact c)) c (rest a b) ≡ unjudged-equation rounding a c b
+  unfolding solved-by unjudged-equation
+  equation-solved a c b = rw (deciding-sort-is c) (go (deciding (sort (exact c)) c) (solvable (sort (exact c)) c (rest a b)) (solutions-mean a c b))
+    where
+      go : (p : Pair) (j : Judgement) → Means a c b p j → unless j (divided rounding (sort (exact (rest a b))) (exact (rest a b)) (sort (exact p)) (exactly.dual (exact p))) ≡ unless j (in-range (rounded rounding (solution (exact a) (exact p) (exact b))))
+      go p _ (only s e h) = rw e (free-divided a p b s e)
+      go p _ (none h) = refl
+      go p _ (several h) = refl
 
   pub equation-agrees : (a c b : Interval) → agrees c ≡ true → stored-equation rounding a c b ≡ unjudged-equation rounding (pair-of a) (pair-of c) (pair-of b)
   unfolding stored-equation
-  equation-agrees a c b h = rw (agrees-sort c h) (equation-divided (pair-of a) (pair-of c) (pair-of b))
+  equation-agrees a c b h = rw (agrees-sort c h) (equation-solved (pair-of a) (pair-of c) (pair-of b))
 
   pub equation-interval : (a c b : Pair) → stored-equation rounding (interval a) (interval c) (interval b) ≡ unjudged-equation rounding a c b
   equation-interval a c b = equation-agrees (interval a) (interval c) (interval b) (interval-agrees c)

@@ -1,5 +1,6 @@
 -- "Each number comes exactly if its cause holds and no cause earlier in the order does", for lines: "length (12), fewer than two fields (12), first
--- field (6), second field (6), count of the other fields (12), then each pair from the left by 1, 2, then 5, 4."
+-- field (6), second field (6), count of the other fields (12), then each pair from the left by 1, 2, then 5, 4." 02, Q-7: for the equation 16 or 17 "in
+-- the place of 5", said over all pairs of fractions.
 use mathlib.Core.Path.{_≡_, refl, sym, ap, _∙_}
 use mathlib.Core.Bool.{Bool, true, false, cond}
 use mathlib.Core.List.{List, [], _∷_}
@@ -12,13 +13,16 @@ use borrow.Author.Tests.{lt-ltb, le-ltb, ltb-true, ltb-false, eq-eqb, ne-eqb, eq
 use Rattle.directed.specs.declared.Answer.{Answer}
 use Rattle.directed.specs.declared.Rounding.{Rounding}
 use Rattle.directed.specs.declared.Binary.{Binary}
-use Rattle.directed.specs.Exact.{sort}
+use Rattle.directed.specs.Exact.{Exact, sort}
 use Rattle.directed.specs.Operations as operations
 use Rattle.directed.specs.Thousandths.{Pair, exact, beyond-range, rounded}
-use Rattle.directed_laws.specs.Operations.{divisor-5, stop-5}
-use Rattle.directed.specs.Answer.{Outcome, refusal, outcome, built, Judgement, sound, cause, unless, divisor, stop, within-range, in-range, unjudged-binary}
+use Rattle.directed_laws.specs.Fraction.{≈-sym}
+use Rattle.directed_laws.specs.Rounding.{rounded-cong}
+use Rattle.directed_laws.specs.Solutions as verdicts
+use Rattle.directed_laws.specs.Solutions.{Means, solutions-mean, unsolvable-iff, several-iff, only-iff}
+use Rattle.directed.specs.Answer.{Outcome, refusal, outcome, built, Judgement, sound, cause, unless, stop, within-range, in-range, unjudged-binary}
 use Rattle.directed.specs.Answer as answers
-use Rattle.directed.specs.Equation.{solution, unjudged-equation}
+use Rattle.directed.specs.Equation.{Unsolvable, Only, Several, unjudged-equation}
 use Rattle.text.specs.Form.{form, value-of}
 use Rattle.text.specs.Answer.{read}
 use Rattle.lines.specs.declared.FirstField.{FirstField}
@@ -65,10 +69,12 @@ abbrev pub pairs : List (List ℕ) → List Pair
 pairs [] = []
 pairs (p ∷ ps) = value-of p ∷ pairs ps
 
--- the operation on some pairs: what may stop it, and its result, rounded once
+-- the operation on some pairs: what may stop it, and its result, rounded once; what is refused has any
 pub data Asks (rounding : Rounding) : SecondField → List Pair → Judgement → Pair → Type 0 where
   of-two : (op : Binary) (a b : Pair) → Asks rounding (Two op) (a ∷ b ∷ []) (stop op (sort (exact b))) (rounded rounding (operations.binary op (exact a) (exact b)))
-  of-equation : (a c b : Pair) → Asks rounding Equation (a ∷ c ∷ b ∷ []) (divisor (sort (exact c))) (rounded rounding (solution (exact a) (exact c) (exact b)))
+  of-equation : (a c b : Pair) (x : Exact) → Only (exact a) (exact c) (exact b) x → Asks rounding Equation (a ∷ c ∷ b ∷ []) sound (rounded rounding x)
+  unsolvable : (a c b v : Pair) → Unsolvable (exact a) (exact c) (exact b) → Asks rounding Equation (a ∷ c ∷ b ∷ []) (cause 16) v
+  several-solutions : (a c b v : Pair) → Several (exact a) (exact c) (exact b) → Asks rounding Equation (a ∷ c ∷ b ∷ []) (cause 17) v
 
 -- what a line is answered: one constructor for each cause, in the order, with what makes it and the absence of those before it; and the value
 pub data Answered (l : List ℕ) : Outcome Pair → Type 0 where
@@ -78,7 +84,8 @@ pub data Answered (l : List ℕ) : Outcome Pair → Type 0 where
   second-letter : {r : Rounding} {ps : List (List ℕ)} → Letters l r NoOperation ps → Answered l (refusal 6)
   wrong-count : {r : Rounding} {o : SecondField} {ps : List (List ℕ)} → Letters l r o ps → known o ≡ true → (length ps ≡ wants o → ⊥) → Answered l (refusal 12)
   pair-refused : {r : Rounding} {o : SecondField} {ps : List (List ℕ)} {k : ℕ} → Letters l r o ps → known o ≡ true → length ps ≡ wants o → Bad ps k → Answered l (refusal k)
-  zero-divisor : {r : Rounding} {o : SecondField} {ps : List (List ℕ)} {v : Pair} → Letters l r o ps → Good ps → Asks r o (pairs ps) (cause 5) v → Answered l (refusal 5)
+  -- 5, or 16 or 17
+  stopped : {r : Rounding} {o : SecondField} {ps : List (List ℕ)} {n : ℕ} {v : Pair} → Letters l r o ps → Good ps → Asks r o (pairs ps) (cause n) v → Answered l (refusal n)
   result-beyond : {r : Rounding} {o : SecondField} {ps : List (List ℕ)} {v : Pair} → Letters l r o ps → Good ps → Asks r o (pairs ps) sound v → beyond-range v ≡ true
       → Answered l (refusal 4)
   value : {r : Rounding} {o : SecondField} {ps : List (List ℕ)} {v : Pair} → Letters l r o ps → Good ps → Asks r o (pairs ps) sound v → beyond-range v ≡ false
@@ -143,30 +150,34 @@ judged (p ∷ ps) = go (form p) (beyond-range (value-of p)) refl refl (judged ps
 asks-is : {r : Rounding} {o : SecondField} {qs : List Pair} {j : Judgement} {v : Pair} → Asks r o qs j v → computed r o qs ≡ unless j (in-range v)
 unfolding computed unjudged-binary unjudged-equation
 asks-is (of-two op a b) = refl
-asks-is (of-equation a c b) = refl
+asks-is {r} (of-equation a c b x h) = let k = only-iff a c b x .0 h in rw (k .0) (ap in-range (rounded-cong r _ _ (λ i. ≈-sym (k .1 i))))
+asks-is (unsolvable a c b v h) = rw (unsolvable-iff a c b .1 h) refl
+asks-is (several-solutions a c b v h) = rw (several-iff a c b .1 h) refl
 
 asks-many : {r : Rounding} {o : SecondField} {qs : List Pair} {j : Judgement} {v : Pair} → Asks r o qs j v → (known o ≡ true) × (length qs ≡ wants o)
 asks-many (of-two op a b) = (refl, refl)
-asks-many (of-equation a c b) = (refl, refl)
+asks-many (of-equation a c b x h) = (refl, refl)
+asks-many (unsolvable a c b v h) = (refl, refl)
+asks-many (several-solutions a c b v h) = (refl, refl)
 
 pairs-many : (ps : List (List ℕ)) → length (pairs ps) ≡ length ps
 pairs-many [] = refl
 pairs-many (p ∷ ps) = ap suc (pairs-many ps)
 
--- what stops an operation is 5, if anything
-asks-5 : {r : Rounding} {o : SecondField} {qs : List Pair} {j : Judgement} {v : Pair} {n : ℕ} → Asks r o qs j v → j ≡ cause n → 5 ≡ n
-asks-5 (of-two op a b) e = stop-5 op (sort (exact b)) e
-asks-5 (of-equation a c b) e = divisor-5 (sort (exact c)) e
-
 data Asked (r : Rounding) (o : SecondField) (qs : List Pair) : Type 0 where
   asked : (j : Judgement) (v : Pair) → Asks r o qs j v → Asked r o qs
+
+asks-equation : {r : Rounding} (a c b : Pair) {p : Pair} {j : Judgement} → Means a c b p j → Asked r Equation (a ∷ c ∷ b ∷ [])
+asks-equation a c b (verdicts.only s e h) = asked _ _ (of-equation a c b _ h)
+asks-equation a c b (verdicts.none h) = asked _ a (unsolvable a c b a h)
+asks-equation a c b (verdicts.several h) = asked _ a (several-solutions a c b a h)
 
 asks : (r : Rounding) (o : SecondField) (qs : List Pair) → known o ≡ true → length qs ≡ wants o → Asked r o qs
 asks r (Two op) (a ∷ b ∷ []) k h = asked _ _ (of-two op a b)
 asks r (Two op) [] k h = absurd (omega arith)
 asks r (Two op) (a ∷ []) k h = absurd (omega arith)
 asks r (Two op) (a ∷ b ∷ c ∷ qs) k h = absurd (omega arith)
-asks r Equation (a ∷ c ∷ b ∷ []) k h = asked _ _ (of-equation a c b)
+asks r Equation (a ∷ c ∷ b ∷ []) k h = asks-equation a c b (solutions-mean a c b)
 asks r Equation [] k h = absurd (omega arith)
 asks r Equation (a ∷ []) k h = absurd (omega arith)
 asks r Equation (a ∷ c ∷ []) k h = absurd (omega arith)
@@ -194,7 +205,7 @@ module _ {l : List ℕ} where
   answered-is (second-letter t) = letters-is t
   answered-is (wrong-count {r} {o} {ps} t k n) = letters-is t ∙ operate-is r o ps k ∙ rw (ne-eqb (length ps) (wants o) n)
   answered-is (pair-refused {r} {o} t k h b) = count-is t k h ∙ with-bad b (computed r o)
-  answered-is (zero-divisor t g a) = asks-answer t g a
+  answered-is (stopped t g a) = asks-answer t g a
   answered-is (result-beyond t g a b) = asks-answer t g a ∙ rw b
   answered-is (value t g a b) = asks-answer t g a ∙ rw b
 
@@ -202,7 +213,7 @@ module _ {l : List ℕ} where
 
 module _ (l : List ℕ) where
   of-result : {r : Rounding} {o : SecondField} {ps : List (List ℕ)} → Letters l r o ps → Good ps → Asked r o (pairs ps) → (x : Outcome Pair) × Answered l x
-  of-result t g (asked (cause n) v a) = (refusal 5, zero-divisor {v = v} t g (rw (asks-5 a refl) a))
+  of-result t g (asked (cause n) v a) = (refusal n, stopped t g a)
   of-result t g (asked sound v a) = go (beyond-range v) refl
     where
       go : (b : Bool) → beyond-range v ≡ b → (x : Outcome Pair) × Answered l x

@@ -1,5 +1,5 @@
--- Document 01, "Values to meet", those marked *, whole: one table with one claim, computed from the definitions, a value without a way in both. Ends
--- are in thousandths. And cause 4 below a dual.
+-- Document 01, "Values to meet", those marked *, whole, and those of 02, Q-7: one table with one claim, computed from the definitions, a value without
+-- a way in both. Ends are in thousandths. And cause 4 below a dual.
 use mathlib.Core.Path.{_≡_, refl}
 use mathlib.Core.List.{List, [], _∷_, _++_}
 use Prim.Native.Nat.{ℕ}
@@ -19,6 +19,7 @@ use Rattle.directed.specs.Kind.{kind-of}
 use Rattle.directed.specs.Lift.{interval, agrees, faulty}
 use Rattle.directed.specs.Answer as answers
 use Rattle.directed.specs.Answer.{Outcome, binary, unjudged-unary, unjudged-binary, given, stop, divisor, within-range}
+use Rattle.directed.specs.Solutions.{compared, weighed, reached, solvable, deciding}
 use Rattle.directed.specs.Equation.{unjudged-equation, equation}
 use Rattle.lists.specs.Steps.{code-of, constant-in}
 use Rattle.lists.specs.Lists.{Result, value, refusal, judgement, admitted, Expression, constant, two, read, evaluated, answer}
@@ -70,13 +71,18 @@ pub worked :
     -- a [0,0], c [2,4], b [6,8]: x [3,2]; b [−4,8] instead: x [−1,2]
     × In-both (λ w. solved w ⟨ + 0 ⋯ + 0 ⟩ ⟨ + 2000 ⋯ + 4000 ⟩ ⟨ + 6000 ⋯ + 8000 ⟩) ⟨ + 3000 ⋯ + 2000 ⟩
     × In-both (λ w. solved w ⟨ + 0 ⋯ + 0 ⟩ ⟨ + 2000 ⋯ + 4000 ⟩ ⟨ - 4000 ⋯ + 8000 ⟩) ⟨ - 1000 ⋯ + 2000 ⟩
+    -- 02, Q-7: "with c [0, 2] and the sum of b and the opposite of a equal to [−2, 4], exactly [−1, 2] solves it. If that sum is [0, 4] there are many
+    -- solutions, if it is [1, 4] none."
+    × In-both (λ w. solved w ⟨ + 0 ⋯ + 0 ⟩ ⟨ + 0 ⋯ + 2000 ⟩ ⟨ - 2000 ⋯ + 4000 ⟩) ⟨ - 1000 ⋯ + 2000 ⟩
+    × (solved Outward ⟨ + 0 ⋯ + 0 ⟩ ⟨ + 0 ⋯ + 2000 ⟩ ⟨ + 0 ⋯ + 4000 ⟩ ≡ answers.refusal 17)
+    × (solved Outward ⟨ + 0 ⋯ + 0 ⟩ ⟨ + 0 ⋯ + 2000 ⟩ ⟨ + 1000 ⋯ + 4000 ⟩ ≡ answers.refusal 16)
     -- [2,5] minus its dual: [0,0]
     × In-both (λ w. computed w Difference ⟨ + 2000 ⋯ + 5000 ⟩ (dual ⟨ + 2000 ⋯ + 5000 ⟩)) ⟨ + 0 ⋯ + 0 ⟩
     -- Steps 1.001, 1.001, product, dual, outward: [1.002,1.003]; inward then [1.003,1.002]
     × (listed Outward (step-1·001 ++ (step-1·001 ++ (3 ∷ 6 ∷ []))) ≡ value ⟨ + 1002 ⋯ + 1003 ⟩)
     × (listed Inward (step-1·001 ++ (step-1·001 ++ (3 ∷ 6 ∷ []))) ≡ value ⟨ + 1003 ⋯ + 1002 ⟩)
-unfolding code-of constant-in judgement admitted read evaluated answer binary equation unjudged-unary unjudged-binary unjudged-equation thousandths.unary given agrees kind-of faulty stop divisor within-range none-free operations.product operations.binary sort direction smaller larger outside beyond-range round-down round-up floor floor-nat ceiling _+ᶠ_ _-ᶠ_ _*ᶠ_ over
-worked = (refl, refl, (refl, refl), (refl, refl), (refl, refl), (refl, refl), refl, refl, refl, (refl, refl), (refl, refl), (refl, refl), refl, refl)
+unfolding code-of constant-in judgement admitted read evaluated answer binary equation unjudged-unary unjudged-binary solvable reached weighed compared deciding unjudged-equation thousandths.unary given agrees kind-of faulty stop divisor within-range none-free operations.product operations.binary sort direction smaller larger outside beyond-range round-down round-up floor floor-nat ceiling _+ᶠ_ _-ᶠ_ _*ᶠ_ over
+worked = (refl, refl, (refl, refl), (refl, refl), (refl, refl), (refl, refl), refl, refl, refl, (refl, refl), (refl, refl), (refl, refl), refl, refl, (refl, refl), refl, refl)
 
 -- [0,1.001] times [0,1998001.999] is [0,2000000.000999]: outward its upper end leaves the range, inward it does not
 abbrev wide-product-dual : List ℕ

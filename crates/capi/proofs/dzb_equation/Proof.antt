@@ -15,7 +15,7 @@ returns c =
     let start = intervals .before .before .before in
     let v = start .args in
     stepless-same _ (equation (way (v .inward)) (interval (pair (v .al) (v .au))) (interval (pair (v .cl) (v .cu))) (interval (pair (v .bl) (v .bu)))) (c .give .ensures)
-    (rw (called .before .rounding .ensures, made (start .fits .al) (start .fits .au) (intervals .before .before .new .ensures), made (start .fits .cl) (start .fits .cu) (intervals .before .new2 .ensures), made (start .fits .bl) (start .fits .bu) (intervals .new3 .ensures)) at (called .equation .ensures))
+    (rw (called .before .rounding .ensures, made (start .fits .al) (start .fits .au) (intervals .before .before .new .ensures), made (start .fits .cl) (start .fits .cu) (intervals .before .new2 .ensures), made (start .fits .bl) (start .fits .bu) (intervals .new3 .ensures)) at (called .equation .ensures .0))
 
 pub dzb-equation-spec : {M : Type 1} → statement M
 dzb-equation-spec =
