@@ -9,8 +9,9 @@ use Rattle.integers.specs.Floor.{floor-scaled, ceiling-scaled}
 use Rattle.integers.specs.Locals.{leZ-scaled}
 use Rattle.directed.specs.Exact.{Exact, _≋_, ⁺, ⁻}
 use Rattle.directed.specs.Fraction.{Fraction, _≈_, _/1000, _*ᶠ_}
-use Rattle.directed.specs.Kind.{sort-of}
-use Rattle.directed.specs.Operations.{product, none-free}
+use Rattle.directed.specs.Kind.{sort-of, kind-of}
+use Rattle.directed.specs.KindLaws.{sort-kind}
+use Rattle.directed.specs.Operations.{_⊠_, product, none-free}
 use Rattle.directed.specs.Thousandths.{Pair, pair, exact, round-down, round-up, rounded}
 use Rattle.directed.specs.declared.Kind.{Kind}
 use Rattle.directed.specs.declared.Kind.the-variants.{Positive, Negative, ProperZero, ImproperZero}
@@ -26,10 +27,10 @@ use Rattle.directed_laws.specs.Rounding.{rounded-cong}
 use Rattle.directed.specs.Exact as exactly
 
 -- ---- ends in millionths
-abbrev millionth : ℤ → Fraction
+abbrev pub millionth : ℤ → Fraction
 millionth z = record { num = z; den = 1000 * 1000; above = omega arith }
 
-abbrev millionths : Ends → Exact
+abbrev pub millionths : Ends → Exact
 millionths e = exactly.ends (millionth (e .lower)) (millionth (e .upper))
 
 times-is : (x y : ℤ) → x /1000 *ᶠ y /1000 ≈ millionth (x *ℤ y)
@@ -79,11 +80,15 @@ module _ (a b : Pair) where
   by-kinds ImproperZero ProperZero = each (zero-≈ _ _ refl refl) (zero-≈ _ _ refl refl)
   by-kinds ImproperZero ImproperZero = each (extreme-is′ true _ _ _ _) (extreme-is′ false _ _ _ _)
 
+-- by the kinds of their ends it is 01's product
+pub product-millionths : (a b : Pair) → exact a ⊠ exact b ≋ millionths (exact-product (kind-of a) (kind-of b) a b)
+product-millionths a b = rw (← sort-kind a, ← sort-kind b) (by-kinds a b (kind-of a) (kind-of b))
+
 -- ---- rounded once
 unfoldable pub thousandths : Rounding → Ends → Pair
 thousandths rounding e = pair (nearest (lower-up rounding) (e .lower) (pos 1000)) (nearest (not (lower-up rounding)) (e .upper) (pos 1000))
 
-millionths-rounded : (rounding : Rounding) (e : Ends) → rounded rounding (millionths e) ≡ thousandths rounding e
+pub millionths-rounded : (rounding : Rounding) (e : Ends) → rounded rounding (millionths e) ≡ thousandths rounding e
 unfolding thousandths nearest round-down round-up
 millionths-rounded Outward e = ap₂ pair (floor-scaled (e .lower) 1000 1000 (omega arith) (omega arith)) (ceiling-scaled (e .upper) 1000 1000 (omega arith) (omega arith))
 millionths-rounded Inward e = ap₂ pair (ceiling-scaled (e .lower) 1000 1000 (omega arith) (omega arith)) (floor-scaled (e .upper) 1000 1000 (omega arith) (omega arith))

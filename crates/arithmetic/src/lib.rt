@@ -1,10 +1,12 @@
 // Directed interval arithmetic in thousandths: each operation exact, then rounded once.
 // The functions named unjudged_.. judge their result alone, and go by the kinds that are carried; the others judge what they are given first.
 ghost use mathlib.Core.Path.{_≡_};
+ghost use lib.IntN.{pos};
 ghost use Rattle.directed.specs.Lift.{pair-of};
 ghost use Rattle.directed.specs.Answer as answer;
 ghost use Rattle.directed.specs.Answer.{outcome, built};
 ghost use Rattle.directed.specs.Equation as meaning;
+ghost use Rattle.arithmetic.specs.Division.{nearest};
 use directed::Answer;
 use directed::Binary;
 use directed::Cause;
@@ -15,7 +17,7 @@ use directed::Unary;
 mod division;
 mod ends;
 mod operations;
-mod products;
+pub mod products;
 mod quotients;
 mod selection;
 mod solutions;
@@ -52,6 +54,13 @@ pub fn unjudged_equation(a: Interval, c: Interval, b: Interval, rounding: Roundi
     ensures { λ r. ⌜ outcome r ≡ built (meaning.stored-equation rounding a c b) ⌝ }
 {
     operations::solution(a, c, b, rounding)
+}
+
+// Millionths to thousandths, rounded up or down.
+pub fn nearest_thousandth(up: bool, millionths: i32) -> i64
+    ensures { λ r. ⌜ r ≡ nearest up millionths (pos 1000) ⌝ }
+{
+    division::nearest_div(up, ends::wide(millionths), 1000)
 }
 
 // ---- 2 first, where an end that is given is beyond the range, or a kind disagrees with its ends

@@ -78,7 +78,9 @@ fn rounded(rounding: Rounding, lower: i64, upper: i64) -> Answer
 pub fn product(a: Interval, b: Interval, rounding: Rounding) -> Answer
     ensures { λ r. ⌜ outcome r ≡ built (stored-binary rounding op.Product a b) ⌝ }
 {
-    let e = products::exact(a, b);
+    let own = a.kind;
+    let kind = b.kind;
+    let e = products::exact(own, a.lower, a.upper, kind, b.lower, b.upper);
     rounded(rounding, e.lower, e.upper)
 }
 

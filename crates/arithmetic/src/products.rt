@@ -2,14 +2,12 @@
 ghost use mathlib.Core.Path.{_≡_};
 ghost use Prim.Native.Nat.{_≤_};
 ghost use lib.IntN.{natAbs, _*ℤ_};
-ghost use Rattle.directed.specs.Lift.{pair-of};
 ghost use Rattle.directed.specs.Thousandths.{pair};
 ghost use Rattle.arithmetic.specs.Ends as meaning;
 ghost use Rattle.integers.specs.Sizes.{product-bound};
 ghost use Rattle.arithmetic.specs.Product as cases;
 use crate::ends;
 use crate::selection;
-use directed::Interval;
 use directed::Kind;
 
 // Two ends in millionths.
@@ -67,22 +65,15 @@ fn exchanged(e: Ends) -> Ends
     }
 }
 
-// By the kinds that the factors carry.
-pub fn exact(a: Interval, b: Interval) -> Ends
-    ensures { λ r. ⌜ (r ≡ cases.exact-product (a .kind) (b .kind) (pair-of a) (pair-of b)) × cases.Sized r ⌝ }
+// By the kinds that are said of the factors. It has more than one caller, so it stays a call: ends and kinds go by registers, intervals would go
+// through memory.
+pub fn exact(own: Kind, al: i32, au: i32, kind: Kind, bl: i32, bu: i32) -> Ends
+    ensures { λ r. ⌜ (r ≡ cases.exact-product own kind (pair al au) (pair bl bu)) × cases.Sized r ⌝ }
 {
-    let own = a.kind;
-    let kind = b.kind;
     match own {
-        Kind::Positive => with_free(kind, a.lower, a.upper, b.lower, b.upper),
-        Kind::Negative => with_free(selection::turned(kind), a.lower, a.upper, b.upper, b.lower),
-        Kind::ProperZero => with_proper(kind, a.lower, a.upper, b.lower, b.upper),
-        Kind::ImproperZero => exchanged(with_proper(
-            selection::turned(kind),
-            a.upper,
-            a.lower,
-            b.upper,
-            b.lower,
-        )),
+        Kind::Positive => with_free(kind, al, au, bl, bu),
+        Kind::Negative => with_free(selection::turned(kind), al, au, bu, bl),
+        Kind::ProperZero => with_proper(kind, al, au, bl, bu),
+        Kind::ImproperZero => exchanged(with_proper(selection::turned(kind), au, al, bu, bl)),
     }
 }

@@ -1,27 +1,18 @@
 -- Both ends over 1000, the upper one rounded in the other direction.
 use borrow.Author.Needs.{needs}
-use Prim.Native.Nat.{_≤_}
-use native.Mathlib.Omega.{arith}
-use lib.IntN.{ℤ, pos, natAbs}
 use mir.Syntax.{w64}
 use Rattle.integers.specs.Locals.{plain, got}
-use Rattle.integers.specs.Parts.{lin}
-use Rattle.arithmetic.specs.Division.{Divides}
-use Rattle.integers.specs.Sizes.{product-bound}
 use Rattle.arithmetic.specs.Ends.{lower-up}
 use Rattle.arithmetic.specs.ProductLaws.{thousandths}
-use Rattle.arithmetic.proofs.Shared.{landed}
+use Rattle.arithmetic.proofs.Shared.{divides-1000, landed}
 use Rattle.arithmetic.proofs.operations.rounded.Statement.{statement}
 use Rattle.arithmetic.proofs.operations.rounded.Tie as tie
 
-divides : (n : ℤ) → natAbs n ≤ product-bound → Divides n (pos 1000)
-divides n h = record { size = omega arith; by = omega arith; some = λ z. omega lin }
-
 nearest-div-requires : tie.Need-nearest-div-requires
-nearest-div-requires c κs = let s = c .before in rw (plain (s .fits .lower)) (divides _ (s .pre .low))
+nearest-div-requires c κs = let s = c .before in rw (plain (s .fits .lower)) (divides-1000 _ (s .pre .low))
 
 nearest-div-requires-2 : tie.Need-nearest-div-requires-2
-nearest-div-requires-2 c κs = let s = c .before .before in rw (plain (s .fits .upper)) (divides _ (s .pre .high))
+nearest-div-requires-2 c κs = let s = c .before .before in rw (plain (s .fits .upper)) (divides-1000 _ (s .pre .high))
 
 returns : tie.Need-returns
 unfolding thousandths
