@@ -46,6 +46,9 @@ typedef int32_t dzb_pair[2];
 #define DZB_BLOCK_RECORDS 30
 #define DZB_BLOCK_LAST 99
 
+/* The most ends of a sheet of trays, four to a tray. */
+#define DZB_SHEET_ENDS 800
+
 /* The refusal numbers of document 01's table, and those that document 02 adds to it. */
 enum dzb_cause {
     DZB_DONE = 0,
@@ -65,7 +68,8 @@ enum dzb_cause {
     DZB_BLOCK_CHECKSUM = 14,     /* the sum of a block's bytes differs */
     DZB_BLOCK_LAYOUT = 15,       /* another field of a block breaks the layout, or an end in it is beyond the range */
     DZB_UNSOLVABLE = 16,         /* no pair of fractions solves the equation */
-    DZB_SEVERAL_SOLUTIONS = 17   /* more than one pair of fractions does */
+    DZB_SEVERAL_SOLUTIONS = 17,  /* more than one pair of fractions does */
+    DZB_SHEET_BOUNDS = 18        /* a sheet has more than 800 ends, or their number is not a multiple of four */
 };
 
 /* Of a number that dzb_list or dzb_list_within returned: the refusal number, and the step to which it applies, counted from 0 (for DZB_NOT_ONE_VALUE the
@@ -141,6 +145,13 @@ uint32_t dzb_begin_block(uint32_t number, uint8_t *block, size_t length);
 /* Adds a record behind those of a block: its count, the record and its sum are written. Refused, with nothing written: 13 where `length` is not 512,
  * then 14, then 15 (the block's number may be any up to 99), then 13 where it holds 30 records, then 2. */
 uint32_t dzb_add_record(uint32_t box, uint32_t line, int32_t lower, int32_t upper, uint8_t *block, size_t length);
+
+/* ---- sheets of trays */
+
+/* The total of a sheet: the sum of mass times count over its trays, exact, rounded once in a way. `ends` has `count` ends, four to a tray: mass, then
+ * count, each lower end first. Trays may stand in any order: the answer is the same. No trays give [0, 0]. Both ends of `result` are written. Refused,
+ * with nothing written: 18 where `count` is above 800 or not a multiple of four, then 2 for any end, then 4 for the total alone. */
+uint32_t dzb_sheet(const int32_t *ends, size_t count, bool inward, dzb_pair result);
 
 #ifdef __cplusplus
 }

@@ -360,6 +360,25 @@ def report(data):
     return told(lambda: file_records(data), line) + b'\n'
 
 
+# ---- document 02, Q-8: "A sheet of trays"
+
+SHEET_ENDS = 800
+
+
+def trays_of(ends):
+    """"four to a tray: mass, then count, each lower end first" """
+    return [((ends[k], ends[k + 1]), (ends[k + 2], ends[k + 3])) for k in range(0, len(ends), 4)]
+
+
+def sheet(way, ends):
+    refuse(18, len(ends) > SHEET_ENDS or len(ends) % 4 != 0)
+    refuse(2, beyond(ends))
+    products = [product(units(mass), units(count)) for mass, count in trays_of(ends)]
+    result = rounded(way, tuple(sum((each[k] for each in products), Fraction(0)) for k in (0, 1)))
+    refuse(4, beyond(result))
+    return result
+
+
 # ---- what crates/library_test prints: its questions are described there
 
 BUFFER = 28

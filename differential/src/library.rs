@@ -21,6 +21,7 @@ unsafe extern "C" {
     fn dzb_line(line: *const u8, length: usize, result: &mut [i32; 2]) -> u32;
     fn dzb_begin_block(number: u32, block: *mut u8, length: usize) -> u32;
     fn dzb_add_record(case: u32, line: u32, lower: i32, upper: i32, block: *mut u8, length: usize) -> u32;
+    fn dzb_sheet(ends: *const i32, count: usize, inward: bool, result: &mut [i32; 2]) -> u32;
 }
 
 /// The ends of the pairs in the order of the call: two for each pair that the operation takes.
@@ -70,4 +71,8 @@ pub fn begin_block(number: u32, block: &mut [u8]) -> u32 {
 /// The ends are lower, then upper.
 pub fn add_record(case: u32, line: u32, ends: (i32, i32), block: &mut [u8]) -> u32 {
     unsafe { dzb_add_record(case, line, ends.0, ends.1, block.as_mut_ptr(), block.len()) }
+}
+
+pub fn sheet(ends: &[i32], way: Way, result: &mut [i32; 2]) -> u32 {
+    unsafe { dzb_sheet(ends.as_ptr(), ends.len(), way == Way::Inward, result) }
 }

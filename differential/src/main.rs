@@ -10,6 +10,7 @@ mod library;
 mod paper;
 mod program;
 mod random;
+mod sheet;
 mod shrink;
 mod solutions;
 mod worked;
@@ -217,6 +218,10 @@ fn main() {
         }
     }
     match day::compare(options.report.as_deref(), options.seed) {
+        Ok(told) => println!("{told}"),
+        Err(message) => stop(&format!("FAILED: {message}")),
+    }
+    match sheet::compare(options.seed) {
         Ok(told) => println!("{told}"),
         Err(message) => stop(&format!("FAILED: {message}")),
     }

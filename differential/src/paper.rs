@@ -114,7 +114,7 @@ impl Paper {
     }
 
     /// 4: "a rounded end beyond the range".
-    fn in_range(self, way: Way, pair: Pair) -> Answer {
+    pub fn in_range(self, way: Way, pair: Pair) -> Answer {
         let (lower, upper) = self.rounded(way, pair);
         if beyond(lower) || beyond(upper) {
             refused(4)

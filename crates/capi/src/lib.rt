@@ -15,6 +15,7 @@ ghost use Rattle.lists.specs.Lists as list;
 ghost use Rattle.lines.specs.Line as line;
 ghost use Rattle.directed.specs.Answer.{verdict-of};
 ghost use Rattle.blocks.specs.Block.{begun, added, storing};
+ghost use Rattle.sheet.specs.Sheet as sheet;
 ghost use Rattle.capi.specs.Effect.{way, effect, done, paired, paired-result, effect-of, stepless, length-effect, length-effect-of, writing-effect, writing-effect-of, returned-for, block-effect, block-effect-of};
 use directed::Answer;
 use directed::Binary;
@@ -293,4 +294,13 @@ pub extern "C" fn dzb_add_record(
 {
     let verdict = blocks::add(box_number, line, Interval::new(lower, upper), block);
     give_verdict(verdict)
+}
+
+// ---- a sheet of trays: four ends to a tray, mass then count, each lower end first. Causes 18, 2, 4.
+
+#[no_mangle]
+pub extern "C" fn dzb_sheet(ends: &[i32], inward: bool, result: &mut [i32; 2]) -> u32
+    ensures { λ r. ⌜ effect r (now (result .exit)) ≡ effect-of (stepless (sheet.answer (way inward) (now (ends .entry)))) (now (result .entry)) ⌝ }
+{
+    give(sheet::total(ends, rounding(inward)), result)
 }
