@@ -10,7 +10,8 @@ use Rattle.lists.specs.Steps.{code-of, follows}
 use Rattle.lists.specs.Lists.{Expression}
 use Rattle.lists.specs.Causes.{Admitted, no-cause, admitted-sound}
 use Rattle.lists.specs.Endings.{Passed, none, next}
-use Rattle.engine.specs.Program.{instruction, step-constant, known, steps-in, behind-steps}
+use Rattle.steps.specs.Admission.{known}
+use Rattle.engine.specs.Program.{instruction, step-constant, steps-in, behind-steps}
 use Rattle.engine.proofs.Compiled.{all-flat, flat-stepped}
 
 steps-more : (n : ℕ) (s : List ℕ) → steps-in (suc n) s ≡ steps-in n s ++ steps-in 1 (behind-steps n s)

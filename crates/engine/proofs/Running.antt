@@ -16,7 +16,8 @@ use Rattle.lists.specs.declared.Step.the-variants.{Constant, One, Two}
 use Rattle.lists.specs.Steps.{code-of, takes, follows, constant-in}
 use Rattle.lists.specs.Walk.{behind, behind-is, behind-drop}
 use Rattle.lists.specs.Lists.{Result, value, refusal}
-use Rattle.engine.specs.Program.{tops, Instruction, instruction, no-constant, step-constant, known, steps-in}
+use Rattle.steps.specs.Admission.{known}
+use Rattle.engine.specs.Program.{tops, Instruction, instruction, no-constant, step-constant, steps-in}
 use Rattle.engine.proofs.Tops.{tops-put, tops-drop}
 use Rattle.engine.specs.Machine.{step-outcome, taken-outcome, last-taken, way-after, ran, Fits, end, step}
 

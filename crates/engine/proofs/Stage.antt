@@ -14,7 +14,7 @@ use Rattle.lists.specs.declared.Step.the-variants.{Constant, One, Two}
 use Rattle.lists.specs.Steps.{code-of, takes, follows}
 use Rattle.lists.specs.Lists.{Expression, stepped, at-end, read, answer}
 use Rattle.lists.specs.Endings.{Passed, none, end-not-one, passed-within}
-use Rattle.lists.specs.Walk.{behind, admitted-at, Passes, walk-refused, walk-next, walk-end}
+use Rattle.lists.specs.Walk.{stepped-length, behind, admitted-at, Passes, walk-refused, walk-next, walk-end}
 use Rattle.engine.specs.Verdict.{end-judgement}
 use Rattle.engine.specs.Program.{tops, steps-in, Instruction, Draft, instruction, step-constant, first-step, empty, added}
 use Rattle.engine.specs.Machine.{Fits, end, step}
@@ -22,14 +22,6 @@ use Rattle.engine.specs.Decode.{Decodes, refuses, gives}
 use Rattle.engine.proofs.Tops.{tops-length, tops-at}
 use Rattle.engine.proofs.Compiled.{all-size, all-flat, all-starts, compiled, starts-length, size-above, flat, added-compiled, flat-stepped, all-flat-length, AllNumbered, numbered-stepped, fits-more, ran-compiled}
 use Rattle.engine.proofs.Passing.{passed-steps}
-
-stepped-length : (k : ℕ) (s : Step) (r : List ℕ) (ts : List Expression) → takes s ≤ length ts → length (stepped k s r ts) ≡ length ts - takes s + 1
-stepped-length k Constant r ts h = omega arith
-stepped-length k (One f) r [] h = absurd (omega arith)
-stepped-length k (One f) r (a ∷ ts) h = omega arith
-stepped-length k (Two g) r [] h = absurd (omega arith)
-stepped-length k (Two g) r (b ∷ []) h = absurd (omega arith)
-stepped-length k (Two g) r (b ∷ a ∷ ts) h = omega arith
 
 fits-stepped : (v k : ℕ) (s : Step) (r : List ℕ) (ts : List Expression) → takes s ≤ length ts → length ts - takes s + 1 ≤ v
     → Fits v 0 (all-flat ts) (length ts) → Fits v 0 (all-flat (stepped k s r ts)) (length (stepped k s r ts))

@@ -10,10 +10,9 @@ use Rattle.directed.specs.Choice.{if_then_else_}
 use Rattle.directed.specs.Lift.{interval}
 use Rattle.lists.specs.declared.Step.{Step}
 use Rattle.lists.specs.declared.Step.the-variants.{Constant, One, Two}
-use Rattle.lists.specs.declared.Code.{Code}
-use Rattle.lists.specs.declared.Code.the-variants.{Known, Unknown}
 use Rattle.lists.specs.Steps.{code-of, follows, constant-in}
 use Rattle.lists.specs.Ways.{turning}
+use Rattle.steps.specs.Admission.{known}
 use Rattle.engine.specs.declared.program.Program.{Program}
 
 -- the first n entries, the last of them first
@@ -52,11 +51,6 @@ step-constant (One f) rest = no-constant
 step-constant (Two g) rest = no-constant
 
 -- ---- the steps of a list
--- the step of a code; of an unknown one it is never asked
-abbrev pub known : Code → Step
-known (Known s) = s
-known Unknown = Constant
-
 -- the first n, and the bytes behind them
 unfoldable pub steps-in : ℕ → List ℕ → List Instruction
 steps-in zero s = []

@@ -1,31 +1,23 @@
 // Lists of steps: the engine. In which way a step is wanted depends on the steps behind it, so a list is first judged, and it is
 // found where the way turns; then it is run, each step once and in its one way.
 ghost use mathlib.Core.Path.{_≡_};
-ghost use Rattle.lists.specs.Lists.{answer, answer-within, capped, outcome, built};
+ghost use Rattle.lists.specs.Lists.{answer, answer-within, outcome, built};
 use directed::Rounding;
 use directed::Verdict;
 use lists::Limits;
 use lists::ListAnswer;
 
-mod constant;
 mod decode;
-mod judge;
 mod machine;
 mod program;
-
-fn capped(limit: usize, most: usize) -> usize
-    ensures { λ r. ⌜ r ≡ capped most limit ⌝ }
-{
-    if most < limit { most } else { limit }
-}
 
 // What a list answers, whatever its bytes are: its value, or one refusal with its step, or with the count of steps read. By a caller's own
 // limits; one above 16 values or 64 steps counts as 16 or 64.
 pub fn evaluate_within(list: &[u8], rounding: Rounding, limits: Limits) -> ListAnswer
     ensures { λ r. ⌜ outcome r ≡ built (answer-within limits rounding (now (list .entry))) ⌝ }
 {
-    let values = capped(limits.values, 16);
-    let steps = capped(limits.steps, 64);
+    let values = steps::capped(limits.values, 16);
+    let steps = steps::capped(limits.steps, 64);
     let decoded = decode::decode(list, values, steps);
     let verdict = decoded.verdict;
     let program = decoded.program;

@@ -9,8 +9,6 @@ ghost use Rattle.lists.specs.Lists.{outcome};
 ghost use Rattle.engine.specs.Program.{steps-in, turns-of};
 ghost use Rattle.engine.specs.Machine.{taken-outcome, last-taken, way-after, ran};
 ghost use Rattle.engine.specs.Decode.{Runs};
-use crate::constant;
-use crate::judge;
 use crate::program::Program;
 use directed::Answer;
 use directed::Interval;
@@ -48,7 +46,7 @@ fn step_answer(step: Step, rest: &[u8], a: Interval, b: Interval, rounding: Roun
     ensures { λ r. ⌜ answers.outcome r ≡ taken-outcome rounding step (interval (constant-in (now (rest .entry)))) a b ⌝ }
 {
     match step {
-        Step::Constant => Answer::Value(constant::constant_in(rest)),
+        Step::Constant => Answer::Value(steps::constant_in(rest)),
         Step::One(op) => arithmetic::unjudged_unary(op, a),
         Step::Two(op) => arithmetic::unjudged_binary(op, a, b, rounding),
     }
@@ -66,9 +64,9 @@ pub fn run(list: &[u8], program: Program, rounding: Rounding) -> ListAnswer
     let mut at = 0;
     let mut k = 0;
     while k < count {
-        let step = judge::step_of(list[at]);
+        let step = steps::step_of(list[at]);
         let next = at + 1;
-        let place = depth - judge::taken(step);
+        let place = depth - steps::taken(step);
         let last = last_taken(step, place);
         way = turned(program.turns[k], way);
         match step_answer(step, &list[next..], items[place], items[last], way) {
@@ -80,7 +78,7 @@ pub fn run(list: &[u8], program: Program, rounding: Rounding) -> ListAnswer
                 return ListAnswer::Refused { cause, at: k };
             }
         }
-        at = next + judge::following(step);
+        at = next + steps::following(step);
         k += 1;
     }
     ListAnswer::Value(items[0])

@@ -6,8 +6,8 @@ use native.Mathlib.Omega.{arith}
 use lib.ListN.{length, List·getD-eq-default}
 use Rattle.lists.specs.declared.Code.the-variants.{Known, Unknown}
 use Rattle.lists.specs.Steps.{codes, code-of}
-use Rattle.engine.proofs.judge.code_of.Statement.{statement}
-use Rattle.engine.proofs.judge.code_of.Tie as tie
+use Rattle.steps.proofs.code_of.Statement.{statement}
+use Rattle.steps.proofs.code_of.Tie as tie
 
 -- past one more code
 past : (m n : ℕ) {A : Type 0} → (A → m ≤ n) → A × (n ≡ m → ⊥) → suc m ≤ n

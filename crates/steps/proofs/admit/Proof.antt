@@ -3,8 +3,8 @@ use native.Mathlib.Omega.{arith}
 use Rattle.lists.specs.Lists.{admitted}
 use borrow.Author.Tests.{lt-ltb, le-ltb}
 use borrow.Author.Needs.{needs}
-use Rattle.engine.proofs.judge.admit.Statement.{statement}
-use Rattle.engine.proofs.judge.admit.Tie as tie
+use Rattle.steps.proofs.admit.Statement.{statement}
+use Rattle.steps.proofs.admit.Tie as tie
 
 returns : tie.Need-returns
 returns c = let a = c .before .before .args in rw (le-ltb (a .number) (a .steps) (omega arith))

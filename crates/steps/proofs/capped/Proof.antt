@@ -2,8 +2,8 @@
 use borrow.Author.Tests.{lt-ltb, le-ltb}
 use mathlib.Core.Path.{refl}
 use Rattle.lists.specs.Lists.{capped}
-use Rattle.engine.proofs.capped.Statement.{statement}
-use Rattle.engine.proofs.capped.Tie as tie
+use Rattle.steps.proofs.capped.Statement.{statement}
+use Rattle.steps.proofs.capped.Tie as tie
 
 returns : tie.Need-returns
 unfolding capped

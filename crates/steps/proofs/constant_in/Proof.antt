@@ -3,8 +3,8 @@ use mir.Syntax.{w32}
 use Rattle.integers.specs.Locals.{got}
 use Rattle.lists.specs.Steps.{constant-in}
 use borrow.Author.Needs.{needs}
-use Rattle.engine.proofs.constant.constant_in.Statement.{statement}
-use Rattle.engine.proofs.constant.constant_in.Tie as tie
+use Rattle.steps.proofs.constant_in.Statement.{statement}
+use Rattle.steps.proofs.constant_in.Tie as tie
 
 returns : tie.Need-returns
 unfolding constant-in

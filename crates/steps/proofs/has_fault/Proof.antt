@@ -4,8 +4,8 @@ use mathlib.Core.Path.{_∙_, ap}
 use Rattle.directed.specs.Lift.{pair-of}
 use Rattle.directed.specs.Thousandths.{beyond-range}
 use Rattle.directed.specs.declared.Interval.{Interval}
-use Rattle.engine.proofs.judge.has_fault.Statement.{statement}
-use Rattle.engine.proofs.judge.has_fault.Tie as tie
+use Rattle.steps.proofs.has_fault.Statement.{statement}
+use Rattle.steps.proofs.has_fault.Tie as tie
 
 returns : tie.Need-returns
 returns c = rw (c .before .before .enum-told .given .1) (c .is-beyond-range .ensures ∙ ap (λ (a : Interval). beyond-range (pair-of a)) (c .before .constant-in .ensures))

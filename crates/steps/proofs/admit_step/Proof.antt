@@ -3,8 +3,8 @@ use mathlib.Core.Path.{sym, _∙_}
 use native.Mathlib.Omega.{arith}
 use Rattle.lists.specs.Causes.{admitted-is, short-constant, end-beyond, too-few, too-many, no-cause}
 use borrow.Author.Needs.{needs}
-use Rattle.engine.proofs.judge.admit_step.Statement.{statement}
-use Rattle.engine.proofs.judge.admit_step.Tie as tie
+use Rattle.steps.proofs.admit_step.Statement.{statement}
+use Rattle.steps.proofs.admit_step.Tie as tie
 
 returns : tie.Need-returns
 returns c = admitted-is _ _ _ (short-constant (omega arith))
