@@ -1,5 +1,5 @@
 /* A list's steps, counted: evaluates each list of a file outward and inward and prints a sum of what came out. With -DPLAIN by plain C written
- * from document 01 (the yardstick), else by the library. Usage: list FILE ROUNDS; the file has a length byte low, a length byte high, and the
+ * from document 01 (the yardstick), with -DBURNIN by the burn-in engine, else by the stack engine. Usage: list FILE ROUNDS; the file has a length byte low, a length byte high, and the
  * list's bytes, again and again (bench/lists). */
 #include "../include/donzibrau.h"
 #include "pairs.h"
@@ -89,6 +89,8 @@ static uint32_t evaluate(const uint8_t *s, size_t length, bool inward, dzb_pair 
     result[1] = values[0].upper;
     return 0;
 }
+#elif defined BURNIN
+#define evaluate(list, length, inward, result) dzb_burnin_list(list, length, inward, DZB_LIST_VALUES, DZB_LIST_STEPS, result)
 #else
 #define evaluate dzb_list
 #endif

@@ -1,5 +1,6 @@
-/* The stack that one call of dzb_list and of dzb_list_within takes: the most over every list of a file (bench/lists), run on a painted stack, less
- * what a call of nothing takes. Usage: stack FILE */
+/* The stack that one call of dzb_list, of dzb_list_within and of dzb_burnin_list takes: the most over every list of a file (bench/lists), run on a
+ * painted stack, less what a call of nothing takes; the last one over lists of 64 steps, each on the value of the one before, too.
+ * Usage: stack FILE */
 #include "../include/donzibrau.h"
 #include <stdio.h>
 #include <string.h>
@@ -15,6 +16,7 @@ static ucontext_t here, there;
 static void nothing(void) { __asm__ volatile(""); }
 static void slip(void) { dzb_list(list, length, DZB_INWARD, result); }
 static void fare(void) { dzb_list_within(list, length, DZB_INWARD, 6, 20, result); }
+static void burnin(void) { dzb_burnin_list(list, length, DZB_INWARD, DZB_LIST_VALUES, DZB_LIST_STEPS, result); }
 
 static size_t taken(void (*call)(void))
 {
@@ -31,10 +33,24 @@ static size_t taken(void (*call)(void))
     return ROOM - at;
 }
 
+static size_t larger(size_t a, size_t b) { return a > b ? a : b; }
+
+/* A first step of `code` on one or two constants, and 64 steps in all. */
+static size_t deepest(uint8_t code, size_t constants)
+{
+    memset(list, 0, sizeof list);
+    for (size_t i = 0; i < constants; i++)
+        list[9 * i + 1] = list[9 * i + 5] = 1;
+    length = 9 * constants + DZB_LIST_STEPS - constants;
+    memset(list + 9 * constants, 6, DZB_LIST_STEPS - constants);
+    list[9 * constants] = code;
+    return taken(burnin);
+}
+
 int main(int count, char **words)
 {
     FILE *file = count > 1 ? fopen(words[1], "rb") : NULL;
-    size_t none = taken(nothing), most = 0, least = 0;
+    size_t none = taken(nothing), most = 0, least = 0, deep = larger(deepest(6, 1), deepest(9, 2)) - none;
     if (!file)
         return 1;
     for (int low; (low = getc(file)) != EOF;) {
@@ -42,8 +58,9 @@ int main(int count, char **words)
         if (length > MOST || fread(list, 1, length, file) != length)
             return 1;
         size_t a = taken(slip) - none, b = taken(fare) - none;
-        most = a > most ? a : most;
-        least = b > least ? b : least;
+        most = larger(a, most);
+        least = larger(b, least);
+        deep = larger(taken(burnin) - none, deep);
     }
-    printf("%zu %zu\n", most, least);
+    printf("%zu %zu %zu\n", most, least, deep);
 }

@@ -72,8 +72,8 @@ enum dzb_cause {
     DZB_SHEET_BOUNDS = 18        /* a sheet has more than 800 ends, or their number is not a multiple of four */
 };
 
-/* Of a number that dzb_list or dzb_list_within returned: the refusal number, and the step to which it applies, counted from 0 (for DZB_NOT_ONE_VALUE the
- * count of steps read). What the other functions return is the refusal number itself, and its step is 0. */
+/* Of a number that dzb_list, dzb_list_within or dzb_burnin_list returned: the refusal number, and the step to which it applies, counted from 0
+ * (for DZB_NOT_ONE_VALUE the count of steps read). What the other functions return is the refusal number itself, and its step is 0. */
 static inline uint32_t dzb_number(uint32_t returned) { return returned % 256; }
 static inline uint32_t dzb_step(uint32_t returned) { return returned / 256; }
 
@@ -152,6 +152,12 @@ uint32_t dzb_add_record(uint32_t box, uint32_t line, int32_t lower, int32_t uppe
  * count, each lower end first. Trays may stand in any order: the answer is the same. No trays give [0, 0]. Both ends of `result` are written. Refused,
  * with nothing written: 18 where `count` is above 800 or not a multiple of four, then 2 for any end, then 4 for the total alone. */
 uint32_t dzb_sheet(const int32_t *ends, size_t count, bool inward, dzb_pair result);
+
+/* ---- the burn-in engine */
+
+/* What dzb_list_within gives, for every list, way and limit: result, refusal and step or count. A second evaluator, written straight from the
+ * meaning; it is slow, and takes more stack. For the factory, which runs every list through both. */
+uint32_t dzb_burnin_list(const uint8_t *list, size_t length, bool inward, size_t values, size_t steps, dzb_pair result);
 
 #ifdef __cplusplus
 }

@@ -64,7 +64,7 @@ pub enum Case {
     Line {
         line: Vec<u8>,
     },
-    /// A list by a caller's limits: values that wait, and steps.
+    /// A list by a caller's limits, values that wait and steps: through both engines.
     Within {
         list: Vec<u8>,
         way: Way,
@@ -205,7 +205,9 @@ impl Case {
             }
             Case::Line { line } => compare_bytes(paper.line(line), line, library::line),
             Case::Within { list, way, limits } => {
-                compare_bytes(paper.list(list, *way, *limits), list, |held, result| library::list_within(held, *way, *limits, result))
+                let expected = paper.list(list, *way, *limits);
+                compare_bytes(expected, list, |held, result| library::burnin_list(held, *way, *limits, result))?;
+                compare_bytes(expected, list, |held, result| library::list_within(held, *way, *limits, result))
             }
         }
     }

@@ -20,6 +20,7 @@ unsafe extern "C" {
     fn dzb_list_within(list: *const u8, length: usize, inward: bool, values: usize, steps: usize, result: &mut [i32; 2]) -> u32;
     fn dzb_line(line: *const u8, length: usize, result: &mut [i32; 2]) -> u32;
     fn dzb_begin_block(number: u32, block: *mut u8, length: usize) -> u32;
+    fn dzb_burnin_list(list: *const u8, length: usize, inward: bool, values: usize, steps: usize, result: &mut [i32; 2]) -> u32;
     fn dzb_add_record(case: u32, line: u32, lower: i32, upper: i32, block: *mut u8, length: usize) -> u32;
     fn dzb_sheet(ends: *const i32, count: usize, inward: bool, result: &mut [i32; 2]) -> u32;
 }
@@ -58,6 +59,10 @@ pub fn list(list: &[u8], way: Way, result: &mut [i32; 2]) -> u32 {
 
 pub fn list_within(list: &[u8], way: Way, limits: (usize, usize), result: &mut [i32; 2]) -> u32 {
     unsafe { dzb_list_within(list.as_ptr(), list.len(), way == Way::Inward, limits.0, limits.1, result) }
+}
+
+pub fn burnin_list(list: &[u8], way: Way, limits: (usize, usize), result: &mut [i32; 2]) -> u32 {
+    unsafe { dzb_burnin_list(list.as_ptr(), list.len(), way == Way::Inward, limits.0, limits.1, result) }
 }
 
 pub fn line(line: &[u8], result: &mut [i32; 2]) -> u32 {

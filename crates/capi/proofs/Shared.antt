@@ -1,18 +1,23 @@
 -- What a call leaves, by the answer that it gives.
-use mathlib.Core.Path.{_≡_}
+use mathlib.Core.Path.{_≡_, sym, _∙_}
 use mathlib.Core.List.{List}
-use Prim.Native.Nat.{ℕ}
+use Prim.Native.Nat.{ℕ, _≤_}
+use native.Mathlib.Omega.{arith}
 use lib.IntN.{ℤ}
 use mir.Syntax.{w32}
 use mir.Val.{SFits, toZ, ofZ}
 use mir.Facts.{toZ-ofZ}
 use Rattle.directed.specs.declared.Interval.{Interval}
+use Rattle.directed.specs.declared.Rounding.{Rounding}
 use Rattle.directed.specs.Thousandths.{Pair, pair}
 use Rattle.directed.specs.Lift.{interval}
 use Rattle.directed.specs.Answer as answers
 use Rattle.directed.specs.Answer.{Outcome, Judgement, built}
 use Rattle.lists.specs.Lists as results
-use Rattle.lists.specs.Lists.{Result, value, refusal}
+use Rattle.lists.specs.Lists.{Result, value, refusal, answer-within}
+use Rattle.lists.specs.declared.Limits.{Limits}
+use Rattle.lists.specs.Limits.{capped-most}
+use Rattle.lists.specs.Within.{step-within}
 use Rattle.directed.specs.ResultLaws.{value-refusal}
 use Rattle.text.specs.Answer.{Writing}
 use Rattle.blocks.specs.Block.{Stored, stored}
@@ -39,6 +44,10 @@ effect-same before (refusal n k) given same = rw same at given
 pub built-refusal : (o : Result Pair) {n k : ℕ} → results.built o ≡ refusal n k → o ≡ refusal n k
 built-refusal (value p) e = absurd (value-refusal e)
 built-refusal (refusal m j) e = cc
+
+-- a refused list's step is at most 64, whatever the caller's limit is
+pub refused-within : (m : Limits) (w : Rounding) (s : List ℕ) {r : Result Interval} → r ≡ results.built (answer-within m w s) → (n k : ℕ) → r ≡ refusal n k → k ≤ 64
+refused-within m w s contract n k refused = omega (arith, step-within _ _ w s n k (built-refusal _ (sym contract ∙ refused)), capped-most 64 (m .steps))
 
 pub stepless-same : (before : List ℤ) (o : Outcome Pair) {r : Outcome Interval} {e : Effect} → e ≡ effect-of (stepless (paired r)) before → r ≡ built o → e ≡ effect-of (stepless o) before
 stepless-same before (answers.value p) given same = rw same at given

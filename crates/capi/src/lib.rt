@@ -304,3 +304,21 @@ pub extern "C" fn dzb_sheet(ends: &[i32], inward: bool, result: &mut [i32; 2]) -
 {
     give(sheet::total(ends, rounding(inward)), result)
 }
+
+// ---- the burn-in engine
+
+// What `dzb_list_within` gives, by an evaluator of its own.
+#[no_mangle]
+pub extern "C" fn dzb_burnin_list(
+    bytes: &[u8],
+    inward: bool,
+    values: usize,
+    steps: usize,
+    result: &mut [i32; 2],
+) -> u32
+    ensures { λ r. ⌜ effect r (now (result .exit)) ≡ effect-of (list.answer-within (record { values = values; steps = steps }) (way inward) (now (bytes .entry))) (now (result .entry)) ⌝ }
+{
+    let way = rounding(inward);
+    let answer = evaluator::evaluate_within(bytes, way, Limits { values, steps });
+    give_list(answer, result)
+}

@@ -1,17 +1,10 @@
 -- `capi::dzb_list_within` gives the answer of `engine::evaluate_within`, whose steps are at most 64 whatever the caller's limit is.
 use borrow.Author.Needs.{needs}
-use mathlib.Core.Path.{sym, _∙_}
-use native.Mathlib.Omega.{arith}
-use Rattle.lists.specs.Limits.{capped-most}
-use Rattle.lists.specs.Within.{step-within}
-use Rattle.capi.proofs.Shared.{effect-same, built-refusal}
+use Rattle.capi.proofs.Shared.{effect-same, refused-within}
 use Rattle.lists.specs.Lists.{answer-within}
 use Rattle.capi.specs.Effect.{way}
 use Rattle.capi.proofs.dzb_list_within.Statement.{statement}
 use Rattle.capi.proofs.dzb_list_within.Tie as tie
-
-give-list-requires : tie.Need-give-list-requires
-give-list-requires c κs n k refused = omega (arith, step-within _ _ _ _ n k (built-refusal _ (sym (c .before .evaluate-within .ensures) ∙ refused)), capped-most 64 (c .before .before .before .before .args .steps))
 
 returns : tie.Need-returns
 returns c =
@@ -20,4 +13,4 @@ returns c =
     effect-same _ (answer-within (record { values = v .values; steps = v .steps }) (way (v .inward)) (v .bytes .now)) (c .give-list .ensures) (rw (called .before .rounding .ensures) at (called .evaluate-within .ensures))
 
 pub dzb-list-within-spec : {M : Type 1} → statement M
-dzb-list-within-spec = tie.close (tie.spec (λ c κs. search needs) (λ c κs. search needs) give-list-requires returns)
+dzb-list-within-spec = tie.close (tie.spec (λ c κs. search needs) (λ c κs. search needs) (λ c κs. refused-within _ _ _ (c .before .evaluate-within .ensures)) returns)
