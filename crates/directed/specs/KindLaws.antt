@@ -44,9 +44,12 @@ of-rank-back Negative = refl
 of-rank-back ProperZero = refl
 of-rank-back ImproperZero = refl
 
+pub rank-injective : (j k : Kind) → rank j ≡ rank k → j ≡ k
+rank-injective j k e = sym (of-rank-back j) ∙ ap of-rank e ∙ of-rank-back k
+
 pub agrees-iff : (a : Interval) → (agrees a ≡ true) ↔ (a .kind ≡ kind-of (pair-of a))
 unfolding agrees
-agrees-iff a = ((λ e. sym (of-rank-back (a .kind)) ∙ ap of-rank (eqb-true _ _ e) ∙ of-rank-back _), λ e. eq-eqb _ _ (ap rank e))
+agrees-iff a = ((λ e. rank-injective (a .kind) _ (eqb-true _ _ e)), λ e. eq-eqb _ _ (ap rank e))
 
 -- what is built agrees
 pub interval-agrees : (p : Pair) → agrees (interval p) ≡ true
