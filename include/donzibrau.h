@@ -49,6 +49,10 @@ typedef int32_t dzb_pair[2];
 /* The most ends of a sheet of trays, four to a tray. */
 #define DZB_SHEET_ENDS 800
 
+/* The most constants of the series of small lists, and the longest of its lists. */
+#define DZB_SERIES_CONSTANTS 4
+#define DZB_SERIES_BYTES 10
+
 /* The refusal numbers of document 01's table, and those that document 02 adds to it. */
 enum dzb_cause {
     DZB_DONE = 0,
@@ -69,7 +73,9 @@ enum dzb_cause {
     DZB_BLOCK_LAYOUT = 15,       /* another field of a block breaks the layout, or an end in it is beyond the range */
     DZB_UNSOLVABLE = 16,         /* no pair of fractions solves the equation */
     DZB_SEVERAL_SOLUTIONS = 17,  /* more than one pair of fractions does */
-    DZB_SHEET_BOUNDS = 18        /* a sheet has more than 800 ends, or their number is not a multiple of four */
+    DZB_SHEET_BOUNDS = 18,       /* a sheet has more than 800 ends, or their number is not a multiple of four */
+    DZB_CONSTANT_COUNT = 19,     /* a number of constants that isn't 1 to 4 */
+    DZB_NOT_IN_SERIES = 20       /* a list that isn't in the series */
 };
 
 /* Of a number that dzb_list, dzb_list_within or dzb_burnin_list returned: the refusal number, and the step to which it applies, counted from 0
@@ -158,6 +164,21 @@ uint32_t dzb_sheet(const int32_t *ends, size_t count, bool inward, dzb_pair resu
 /* What dzb_list_within gives, for every list, way and limit: result, refusal and step or count. A second evaluator, written straight from the
  * meaning; it is slow, and takes more stack. For the factory, which runs every list through both. */
 uint32_t dzb_burnin_list(const uint8_t *list, size_t length, bool inward, size_t values, size_t steps, dzb_pair result);
+
+/* ---- the series of small lists, for burn-in
+ *
+ * Every list of 1 to 5 steps over 1 to 4 constants that dzb_list refuses with none of 6 to 11 once the constants stand there. They are named by position: a
+ * constant is the byte 0 and its position, counted from 0, in place of the 8 bytes. Lists of fewer steps come first; then they go by the first step that differs,
+ * constants by position before the codes 1 to 9. Over 1, 2, 3 and 4 constants there are 577, 2354, 5763 and 11236 lists. */
+
+/* The first list: the front of `buffer` is filled with it, and `written` gets its length; the bytes behind it stay as they were. Refused, with nothing
+ * written: 19 where `constants` isn't 1 to 4, then 3 where `length` is less than the list's. */
+uint32_t dzb_first_list(size_t constants, uint8_t *buffer, size_t length, size_t *written);
+
+/* The list that follows the `list_length` bytes at `list`: it goes to `buffer`, and its length to `written`, as above; at most DZB_SERIES_BYTES. If that list
+ * was the last, `written` gets 0, which no list has, and `buffer` stays as it was. Refused, with nothing written: 19, then 20 where the list handed in
+ * isn't in the series, then 3. `list` and `buffer` are places apart. */
+uint32_t dzb_next_list(size_t constants, const uint8_t *list, size_t list_length, uint8_t *buffer, size_t length, size_t *written);
 
 #ifdef __cplusplus
 }

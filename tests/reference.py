@@ -5,6 +5,7 @@ A pair is a tuple of two ends. What is given and what is answered is in whole th
 A function returns its value or raises `Refusal`. Run as a program, it answers the lines of standard input as the slip does.
 """
 import contextlib
+import functools
 import itertools
 import math
 import re
@@ -377,6 +378,69 @@ def sheet(way, ends):
     result = rounded(way, tuple(sum((each[k] for each in products), Fraction(0)) for k in (0, 1)))
     refuse(4, beyond(result))
     return result
+
+
+# ---- document 02, Q-10: "All small lists for burn-in". A step is a tuple: code 0 and a position, or a code alone.
+
+CONSTANTS, LISTED = 4, 5
+
+
+def cause_of(steps):
+    """What a list is refused with once 8 bytes, here zeros, stand in the place of each position; None if with nothing."""
+    try:
+        expression(b''.join(bytes(9) if step[0] == CONSTANT else bytes(step) for step in steps))
+    except Refusal as refusal:
+        return refusal.number
+    return None
+
+
+@functools.lru_cache(None)
+def series(count):
+    """Every well-formed list in order. A list refused with more than 11 alone stays refused, whatever follows."""
+    steps = [(CONSTANT, position) for position in range(count)] + [(code,) for code in sorted(CODES)]
+    lists, begun = [], [()]
+    for _ in range(LISTED):
+        begun = [front + (step,) for front in begun for step in steps]
+        causes = [cause_of(front) for front in begun]
+        lists += [front for front, cause in zip(begun, causes) if cause is None]
+        begun = [front for front, cause in zip(begun, causes) if cause in (None, 11)]
+    return [b''.join(map(bytes, steps)) for steps in lists]
+
+
+@functools.lru_cache(None)
+def followers(count):
+    return dict(zip(series(count), series(count)[1:] + [b'']))
+
+
+def first_list(count, room):
+    refuse(19, not 1 <= count <= CONSTANTS)
+    refuse(3, room < len(series(count)[0]))
+    return series(count)[0]
+
+
+def next_list(count, data, room):
+    """The list that follows, or no bytes if it was the last."""
+    refuse(19, not 1 <= count <= CONSTANTS)
+    refuse(20, data not in followers(count))
+    refuse(3, room < len(followers(count)[data]))
+    return followers(count)[data]
+
+
+def burnin(data):
+    """What the burn-in program prints: how many lists it ran, none of which differs, or the refusal and the line."""
+    lines = data.split(b'\n')
+    if lines[-1] == b'':
+        lines.pop()
+
+    def run():
+        for number, line in enumerate(lines, 1):
+            with at_step(number):
+                refuse(19, number > CONSTANTS)
+                read_text(line)
+        with at_step(1):
+            refuse(19, not lines)
+        return b'%d 0' % len(series(len(lines)))
+    return told(run, bytes) + b'\n'
 
 
 # ---- what crates/library_test prints: its questions are described there

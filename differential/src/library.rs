@@ -23,6 +23,8 @@ unsafe extern "C" {
     fn dzb_burnin_list(list: *const u8, length: usize, inward: bool, values: usize, steps: usize, result: &mut [i32; 2]) -> u32;
     fn dzb_add_record(case: u32, line: u32, lower: i32, upper: i32, block: *mut u8, length: usize) -> u32;
     fn dzb_sheet(ends: *const i32, count: usize, inward: bool, result: &mut [i32; 2]) -> u32;
+    fn dzb_first_list(constants: usize, buffer: *mut u8, length: usize, written: &mut usize) -> u32;
+    fn dzb_next_list(constants: usize, list: *const u8, list_length: usize, buffer: *mut u8, length: usize, written: &mut usize) -> u32;
 }
 
 /// The ends of the pairs in the order of the call: two for each pair that the operation takes.
@@ -80,4 +82,12 @@ pub fn add_record(case: u32, line: u32, ends: (i32, i32), block: &mut [u8]) -> u
 
 pub fn sheet(ends: &[i32], way: Way, result: &mut [i32; 2]) -> u32 {
     unsafe { dzb_sheet(ends.as_ptr(), ends.len(), way == Way::Inward, result) }
+}
+
+pub fn first_list(constants: usize, buffer: &mut [u8], written: &mut usize) -> u32 {
+    unsafe { dzb_first_list(constants, buffer.as_mut_ptr(), buffer.len(), written) }
+}
+
+pub fn next_list(constants: usize, list: &[u8], buffer: &mut [u8], written: &mut usize) -> u32 {
+    unsafe { dzb_next_list(constants, list.as_ptr(), list.len(), buffer.as_mut_ptr(), buffer.len(), written) }
 }

@@ -11,6 +11,7 @@ mod paper;
 mod program;
 mod random;
 mod sheet;
+mod series;
 mod shrink;
 mod solutions;
 mod worked;
@@ -222,6 +223,10 @@ fn main() {
         Err(message) => stop(&format!("FAILED: {message}")),
     }
     match sheet::compare(options.seed) {
+        Ok(told) => println!("{told}"),
+        Err(message) => stop(&format!("FAILED: {message}")),
+    }
+    match series::compare(options.seed) {
         Ok(told) => println!("{told}"),
         Err(message) => stop(&format!("FAILED: {message}")),
     }

@@ -21,7 +21,8 @@ use Rattle.lists.specs.Within.{step-within}
 use Rattle.directed.specs.ResultLaws.{value-refusal}
 use Rattle.text.specs.Answer.{Writing}
 use Rattle.blocks.specs.Block.{Stored, stored}
-use Rattle.capi.specs.Effect.{Effect, effect, done, paired, paired-result, effect-of, stepless, with-step, length-effect, length-effect-of, writing-effect, writing-effect-of, returned-for, block-effect, block-effect-of}
+use Rattle.series.specs.Series as series
+use Rattle.capi.specs.Effect.{Effect, effect, done, paired, paired-result, effect-of, stepless, with-step, length-effect, length-effect-of, writing-effect, writing-effect-of, returned-for, block-effect, block-effect-of, list-effect-of, series-effect-of}
 
 -- an interval made of two numbers that are given
 pub made : {a : Interval} {l u : ℤ} → SFits w32 l → SFits w32 u → a ≡ interval (pair (toZ w32 (ofZ w32 l)) (toZ w32 (ofZ w32 u))) → a ≡ interval (pair l u)
@@ -69,3 +70,20 @@ module _ (before : ℕ) {t : Outcome ℕ} where
 pub block-effect-same : {n : ℕ} {j : Judgement} {d : List ℕ} {s : Stored} → n ≡ returned-for j → stored j d ≡ s → block-effect n d ≡ block-effect-of s
 unfolding block-effect-of
 block-effect-same p q = rw (← q, p)
+
+module _ (before : ℕ) {t : series.Reply} where
+  pub list-effect-listed : {n : ℕ} → t ≡ series.listed n → length-effect 0 n ≡ list-effect-of t before
+  unfolding list-effect-of
+  list-effect-listed p = rw p
+
+  pub list-effect-ended : t ≡ series.ended → length-effect 0 0 ≡ list-effect-of t before
+  unfolding list-effect-of
+  list-effect-ended p = rw p
+
+  pub list-effect-refused : {k n : ℕ} → t ≡ series.refused k → n ≡ k → length-effect n before ≡ list-effect-of t before
+  unfolding list-effect-of
+  list-effect-refused p q = rw (p, q)
+
+  pub series-effect-same : {n l : ℕ} {d : List ℕ} {e : series.Effect} → length-effect n l ≡ list-effect-of t before → series.effect t d ≡ e → writing-effect n l d ≡ series-effect-of e before
+  unfolding series-effect-of
+  series-effect-same p q = rw (← q, p)

@@ -13,6 +13,7 @@ use Rattle.directed.specs.Thousandths.{Pair}
 use Rattle.lists.specs.Lists.{Result, value, refusal, at}
 use Rattle.text.specs.Answer.{Writing}
 use Rattle.blocks.specs.Block.{Stored}
+use Rattle.series.specs.Series as series
 
 -- 01's way, as C says it: `inward`
 abbrev pub way : Bool → Rounding
@@ -91,3 +92,12 @@ returned-for (answers.cause n) = n
 -- 0, or the refusal's number; the bytes are as 02 says.
 unfoldable pub block-effect-of : Stored → BlockEffect
 block-effect-of s = block-effect (returned-for (s .said)) (s .bytes)
+
+-- A list of the series: its length goes to a lent number, and 0, which no list has, says that the list handed in was the last.
+unfoldable pub list-effect-of : series.Reply → ℕ → LengthEffect
+list-effect-of (series.listed n) before = length-effect 0 n
+list-effect-of series.ended before = length-effect 0 0
+list-effect-of (series.refused k) before = length-effect k before
+
+unfoldable pub series-effect-of : series.Effect → ℕ → WritingEffect
+series-effect-of e before = record { told = list-effect-of (e .told) before; buffer = e .buffer }

@@ -16,7 +16,9 @@ ghost use Rattle.lines.specs.Line as line;
 ghost use Rattle.directed.specs.Answer.{verdict-of};
 ghost use Rattle.blocks.specs.Block.{begun, added, storing};
 ghost use Rattle.sheet.specs.Sheet as sheet;
-ghost use Rattle.capi.specs.Effect.{way, effect, done, paired, paired-result, effect-of, stepless, length-effect, length-effect-of, writing-effect, writing-effect-of, returned-for, block-effect, block-effect-of};
+ghost use Rattle.series.specs.Series.{first-of, next-of, reply};
+ghost use Rattle.series.specs.Series as generator;
+ghost use Rattle.capi.specs.Effect.{way, effect, done, paired, paired-result, effect-of, stepless, length-effect, length-effect-of, writing-effect, writing-effect-of, returned-for, block-effect, block-effect-of, list-effect-of, series-effect-of};
 use directed::Answer;
 use directed::Binary;
 use directed::Interval;
@@ -25,6 +27,7 @@ use directed::Unary;
 use directed::Verdict;
 use lists::Limits;
 use lists::ListAnswer;
+use series::Generated;
 use text::Written;
 
 fn rounding(inward: bool) -> Rounding
@@ -321,4 +324,45 @@ pub extern "C" fn dzb_burnin_list(
     let way = rounding(inward);
     let answer = evaluator::evaluate_within(bytes, way, Limits { values, steps });
     give_list(answer, result)
+}
+
+// ---- the series of small lists
+
+fn give_generated(answer: Generated, length: &mut usize) -> u32
+    ensures { λ r. ⌜ length-effect r (now (length .exit)) ≡ list-effect-of (reply answer) (now (length .entry)) ⌝ }
+{
+    match answer {
+        Generated::Found(n) => {
+            *length = n;
+            0
+        }
+        Generated::Last => {
+            *length = 0;
+            0
+        }
+        Generated::Refused(cause) => cause.number() as u32,
+    }
+}
+
+// Causes 19, 3.
+#[no_mangle]
+pub extern "C" fn dzb_first_list(constants: usize, buffer: &mut [u8], length: &mut usize) -> u32
+    ensures { λ r. ⌜ writing-effect r (now (length .exit)) (now (buffer .exit)) ≡ series-effect-of (generator.effect-of (first-of constants) (now (buffer .entry))) (now (length .entry)) ⌝ }
+{
+    let answer = series::first(constants, buffer);
+    give_generated(answer, length)
+}
+
+// Causes 19, 20, 3. The last list is followed by none: length 0.
+#[no_mangle]
+pub extern "C" fn dzb_next_list(
+    constants: usize,
+    list: &[u8],
+    buffer: &mut [u8],
+    length: &mut usize,
+) -> u32
+    ensures { λ r. ⌜ writing-effect r (now (length .exit)) (now (buffer .exit)) ≡ series-effect-of (generator.effect-of (next-of constants (now (list .entry))) (now (buffer .entry))) (now (length .entry)) ⌝ }
+{
+    let answer = series::next(constants, list, buffer);
+    give_generated(answer, length)
 }
