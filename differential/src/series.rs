@@ -22,8 +22,14 @@ enum Mistake {
     ListFirst,
 }
 
-const MISTAKES: [Mistake; 6] =
-    [Mistake::CodesFirst, Mistake::LongestFirst, Mistake::LastThenFirst, Mistake::EqualPositions, Mistake::PositionFour, Mistake::ListFirst];
+const MISTAKES: [Mistake; 6] = [
+    Mistake::CodesFirst,
+    Mistake::LongestFirst,
+    Mistake::LastThenFirst,
+    Mistake::EqualPositions,
+    Mistake::PositionFour,
+    Mistake::ListFirst,
+];
 
 #[derive(Clone, Copy, PartialEq, Eq, Debug)]
 enum Step {
@@ -52,10 +58,12 @@ fn leaves_one(list: &[Step]) -> bool {
 }
 
 fn bytes_of(list: &[Step]) -> Vec<u8> {
-    list.iter().flat_map(|step| match step {
-        Step::Constant(position) => vec![0, *position],
-        Step::Code(code) => vec![*code],
-    }).collect()
+    list.iter()
+        .flat_map(|step| match step {
+            Step::Constant(position) => vec![0, *position],
+            Step::Code(code) => vec![*code],
+        })
+        .collect()
 }
 
 /// "constants by position before codes 1 to 9"
@@ -104,7 +112,8 @@ struct Reading {
 impl Reading {
     fn new(mistake: Mistake) -> Reading {
         let lists: Vec<_> = (1..=4).map(|count| series(count, mistake)).collect();
-        let places = lists.iter().map(|all| all.iter().cloned().enumerate().map(|(place, list)| (list, place)).collect()).collect();
+        let places =
+            lists.iter().map(|all| all.iter().cloned().enumerate().map(|(place, list)| (list, place)).collect()).collect();
         Reading { lists, places, mistake }
     }
 
@@ -180,9 +189,14 @@ impl Reading {
             let mut list = self.lists[r.index(4)].get(r.index(577)).cloned().unwrap_or_default();
             while r.percent(60) {
                 match r.index(4) {
-                    0 => { list.pop(); }
+                    0 => {
+                        list.pop();
+                    }
                     1 => list.push(r.index(12) as u8),
-                    2 if !list.is_empty() => { let at = r.index(list.len()); list[at] = r.index(12) as u8; }
+                    2 if !list.is_empty() => {
+                        let at = r.index(list.len());
+                        list[at] = r.index(12) as u8;
+                    }
                     _ => list.insert(r.index(list.len() + 1), r.one_of(&[0, 4, 255])),
                 }
             }

@@ -332,8 +332,8 @@ fn give_generated(answer: Generated, length: &mut usize) -> u32
     ensures { λ r. ⌜ length-effect r (now (length .exit)) ≡ list-effect-of (reply answer) (now (length .entry)) ⌝ }
 {
     match answer {
-        Generated::Found(n) => {
-            *length = n;
+        Generated::Found(bytes) => {
+            *length = bytes;
             0
         }
         Generated::Last => {
