@@ -7,7 +7,7 @@ use lib.IntN.{ℤ, pos, negsuc, negℤ, _*ℤ_, *ℤ-zero}
 use Rattle.integers.specs.Floor.{floor, floor-nat, ceiling}
 use Rattle.integers.specs.Laws.{negℤ-*ℤ}
 use Rattle.integers.specs.Parts.{is-diff, diffs}
-use Rattle.directed.specs.Answer.{divisor, in-range, refusal, stored-binary}
+use Rattle.directed.specs.Answer.{divisor, value, refusal, stored-binary}
 use Rattle.directed.specs.Answer as answer
 use Rattle.directed.specs.Lift.{pair-of}
 use Rattle.directed.specs.declared.Interval.{Interval}
@@ -25,7 +25,7 @@ use Rattle.arithmetic.specs.Division.{nearest}
 use Rattle.arithmetic.specs.Ends.{lower-up}
 use Rattle.arithmetic.specs.Selection.{chosen, turned}
 use Rattle.arithmetic.specs.ProductLaws.{each}
-use Rattle.arithmetic.specs.Quotient.{ratio, nearest-ratio, ratios, by-free, divided}
+use Rattle.arithmetic.specs.Quotient.{ratio, nearest-ratio, ratios, by-free, bounded, quotient, divided}
 use Rattle.directed_laws.specs.Fraction.{≈-trans, zero-≈, *ᶠ-comm}
 use Rattle.directed_laws.specs.Rounding.{rounded-cong}
 
@@ -81,21 +81,29 @@ module _ (n c : Pair) where
   negative-kinds ImproperZero = each (is-ratio′ _ _) (is-ratio′ _ _)
 
   module _ (rounding : Rounding) (k : Kind) where
-    pub positive-divided : in-range (rounded rounding (by-free k n c)) ≡ divided rounding k n Positive c
-    unfolding divided answer.divided divisor
-    positive-divided = ap in-range (sym (rounded-cong rounding _ _ (positive-kinds k)))
+    pub positive-quotient : value (rounded rounding (by-free k n c)) ≡ quotient rounding k n Positive c
+    unfolding quotient divisor
+    positive-quotient = ap value (sym (rounded-cong rounding _ _ (positive-kinds k)))
 
-    pub negative-divided : in-range (rounded rounding (by-free (turned k) (dual n) c)) ≡ divided rounding k n Negative c
-    unfolding divided answer.divided divisor
-    negative-divided = ap in-range (sym (rounded-cong rounding _ _ (negative-kinds k)))
+    pub negative-quotient : value (rounded rounding (by-free (turned k) (dual n) c)) ≡ quotient rounding k n Negative c
+    unfolding quotient divisor
+    negative-quotient = ap value (sym (rounded-cong rounding _ _ (negative-kinds k)))
 
-    pub proper-divided : refusal 5 ≡ divided rounding k n ProperZero c
-    unfolding divided answer.divided divisor
-    proper-divided = refl
+    pub proper-quotient : refusal 5 ≡ quotient rounding k n ProperZero c
+    unfolding quotient divisor
+    proper-quotient = refl
 
-    pub improper-divided : refusal 5 ≡ divided rounding k n ImproperZero c
-    unfolding divided answer.divided divisor
-    improper-divided = refl
+    pub improper-quotient : refusal 5 ≡ quotient rounding k n ImproperZero c
+    unfolding quotient divisor
+    improper-quotient = refl
+
+    -- held to the range
+    pub quotient-bounded : (by : Kind) → bounded (quotient rounding k n by c) ≡ divided rounding k n by c
+    unfolding quotient divided answer.divided divisor
+    quotient-bounded Positive = refl
+    quotient-bounded Negative = refl
+    quotient-bounded ProperZero = refl
+    quotient-bounded ImproperZero = refl
 
 -- ---- the quotient by the kinds that are carried
 module _ (rounding : Rounding) where

@@ -6,6 +6,7 @@ ghost use Rattle.directed.specs.Thousandths.{pair};
 ghost use Rattle.directed.specs.Answer.{outcome, built, in-range};
 ghost use Rattle.arithmetic.specs.Ends as meaning;
 ghost use Rattle.integers.specs.Sizes.{difference-bound, product-bound};
+use crate::products::Ends;
 use directed::Answer;
 use directed::Cause;
 use directed::Rounding;
@@ -56,6 +57,12 @@ pub fn in_range(lower: i64, upper: i64) -> Answer
     ensures { λ r. ⌜ outcome r ≡ built (in-range (pair lower upper)) ⌝ }
 {
     Answer::within_range(lower, upper, Cause::ResultBeyondRange)
+}
+
+pub fn judged(e: Ends) -> Answer
+    ensures { λ r. ⌜ outcome r ≡ built (in-range (pair (e .lower) (e .upper))) ⌝ }
+{
+    in_range(e.lower, e.upper)
 }
 
 pub fn lower_up(rounding: Rounding) -> bool

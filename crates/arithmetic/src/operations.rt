@@ -1,22 +1,28 @@
 // The operations one by one, and the equation; what is given is not judged.
 ghost use mathlib.Core.Path.{_≡_};
-ghost use lib.IntN.{negℤ, _+ℤ_, _-ℤ_};
+ghost use Prim.Native.Nat.{_≤_};
+ghost use lib.IntN.{natAbs, negℤ, _+ℤ_, _-ℤ_};
 ghost use Rattle.directed.specs.Thousandths.{pair, dual};
 ghost use Rattle.directed.specs.declared.Binary.the-variants as op;
 ghost use Rattle.directed.specs.Lift.{pair-of};
 ghost use Rattle.directed.specs.Answer.{outcome, built, in-range, stored-binary};
 ghost use Rattle.directed.specs.Equation as meaning;
+ghost use Rattle.integers.specs.Sizes.{difference-bound};
 ghost use Rattle.arithmetic.specs.Ends.{extreme};
 ghost use Rattle.arithmetic.specs.Operations.{lattice};
 ghost use Rattle.arithmetic.specs.ProductLaws.{thousandths};
 ghost use Rattle.arithmetic.specs.Product.{ends, Sized};
+ghost use Rattle.arithmetic.specs.Quotient.{unbounded, count};
 use crate::division;
 use crate::ends;
 use crate::products;
+use crate::products::Ends;
 use crate::quotients;
+use crate::quotients::Unbounded;
 use crate::solutions;
 use directed::Answer;
 use directed::Interval;
+use directed::Kind;
 use directed::Rounding;
 
 pub fn negated(lower: i32, upper: i32) -> Answer
@@ -94,12 +100,30 @@ pub fn quotient(a: Interval, b: Interval, rounding: Rounding) -> Answer
     quotients::divided(rounding, kind, lower, upper, by, b.lower, b.upper)
 }
 
-// By the kind that c carries; no range holds the difference of b and the dual of a.
+// b − dual a, which no range holds.
+fn rest(a: Interval, b: Interval) -> Ends
+    ensures { λ r. ⌜ (pair (r .lower) (r .upper) ≡ meaning.rest (pair-of a) (pair-of b)) × (natAbs (r .lower) ≤ difference-bound) × (natAbs (r .upper) ≤ difference-bound) ⌝ }
+{
+    let lower = ends::difference(b.lower, a.lower);
+    let upper = ends::difference(b.upper, a.upper);
+    Ends { lower, upper }
+}
+
+// By the kind that c carries.
 pub fn solution(a: Interval, c: Interval, b: Interval, rounding: Rounding) -> Answer
     ensures { λ r. ⌜ outcome r ≡ built (meaning.stored-equation rounding a c b) ⌝ }
 {
     let by = c.kind;
-    let lower = ends::difference(b.lower, a.lower);
-    let upper = ends::difference(b.upper, a.upper);
-    solutions::solved_by(rounding, lower, upper, by, c.lower, c.upper)
+    let d = rest(a, b);
+    solutions::solved_by(rounding, d.lower, d.upper, by, c.lower, c.upper)
+}
+
+// That over dual c, rounded and held to no range, by the kind that c carries; its dual, if zero-free, has it too.
+pub fn count(a: Interval, c: Interval, b: Interval, rounding: Rounding) -> Unbounded
+    ensures { λ r. ⌜ unbounded r ≡ count rounding a c b ⌝ }
+{
+    let by = c.kind;
+    let d = rest(a, b);
+    let kind = Kind::from_ends(d.lower, d.upper);
+    quotients::quotient(rounding, kind, d.lower, d.upper, by, c.upper, c.lower)
 }

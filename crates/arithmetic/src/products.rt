@@ -10,7 +10,7 @@ use crate::ends;
 use crate::selection;
 use directed::Kind;
 
-// Two ends in millionths.
+// Two ends in 64 bits, which no range holds yet.
 pub struct Ends {
     pub lower: i64,
     pub upper: i64,

@@ -1,30 +1,30 @@
 -- The difference, solved by the kind that c carries.
 use borrow.Author.Needs.{needs}
-use mathlib.Core.Path.{ap₂, _∙_}
-use lib.IntN.{_-ℤ_}
-use mir.Syntax.{w64}
-use Rattle.integers.specs.Locals.{got}
-use Rattle.directed.specs.Equation.{stored-equation}
-use Rattle.arithmetic.proofs.Shared.{Same}
+use mathlib.Core.Path.{ap, _∙_}
+use Rattle.directed.specs.Answer.{built}
+use Rattle.directed.specs.Equation.{solved-by, stored-equation}
+use Rattle.directed.specs.Kind.{sort-of}
+use Rattle.directed.specs.Lift.{pair-of}
+use Rattle.directed.specs.Thousandths.{Pair}
+use Rattle.arithmetic.proofs.Shared.{Same, Same64}
 use Rattle.arithmetic.proofs.operations.solution.Statement.{statement}
 use Rattle.arithmetic.proofs.operations.solution.Tie as tie
 
-back : (s : tie.Start) → Same (s .args .a .lower) × Same (s .args .a .upper) × Same (s .args .b .lower) × Same (s .args .b .upper) × Same (s .args .c .lower) × Same (s .args .c .upper)
-back s = (search needs, search needs, search needs, search needs, search needs, search needs)
+back : (r : tie.After-rest) → Same64 (r .rest .result .lower) × Same64 (r .rest .result .upper)
+back r = (search needs, search needs)
+
+ends : (s : tie.Start) → Same (s .args .c .lower) × Same (s .args .c .upper)
+ends s = (search needs, search needs)
 
 returns : tie.Need-returns
 unfolding stored-equation
 returns c =
-    let u = c .before .before .before in
-    let l = u .before .before .before in
-    let s = l .before .before .before in
-    let f = back s in
-    rw (
-      got w64 (l .difference .ok) (l .difference .ensures .0 ∙ ap₂ _-ℤ_ (f .2) (f .0)),
-      got w64 (u .difference2 .ok) (u .difference2 .ensures .0 ∙ ap₂ _-ℤ_ (f .3) (f .1)),
-      f .4,
-      f .5,
-    ) at (c .solved-by .ensures)
+    let r = c .before .before .before .before .before in
+    let v = r .before .args in
+    let f = back r in
+    let g = ends (r .before) in
+    rw (f .0, f .1, g .0, g .1) at (c .solved-by .ensures)
+    ∙ ap (λ (d : Pair). built (solved-by (v .rounding) (sort-of (v .c .kind)) (pair-of (v .c)) d)) (r .rest .ensures .0)
 
 pub solution-spec : {M : Type 1} → statement M
-solution-spec = tie.close (tie.spec (λ c κs. search needs) (λ c κs. search needs) (λ c κs. search needs) returns)
+solution-spec = tie.close (tie.spec (λ c κs. search needs) (λ c κs. search needs) returns)

@@ -1,9 +1,8 @@
 -- Over the ends that the kind picks.
 use borrow.Author.Needs.{needs}
-use mathlib.Core.Path.{ap, ap₂, _∙_}
+use mathlib.Core.Path.{ap₂, _∙_}
 use lib.IntN.{ℤ}
 use Rattle.integers.specs.Locals.{plain}
-use Rattle.directed.specs.Answer.{built, in-range}
 use Rattle.directed.specs.Thousandths.{Pair, pair, rounded}
 use Rattle.arithmetic.specs.Quotient.{ratios}
 use Rattle.arithmetic.specs.Selection.{chosen}
@@ -20,7 +19,8 @@ returns c =
     let s = k .before in
     let f = back k in
     let h = k .chosen .ensures ∙ ap₂ (λ (l u : ℤ). chosen (s .args .kind) (pair l u)) (plain (s .fits .cu)) (plain (s .fits .cl)) in
-    rw (plain (s .fits .nl), plain (s .fits .nu), f .0, f .1) at (c .ratios .ensures) ∙ ap (λ (d : Pair). built (in-range (rounded (s .args .rounding) (ratios (pair (s .args .nl) (s .args .nu)) d)))) h
+    c .ratios .ensures
+    ∙ ap₂ (λ (n d : Pair). rounded (s .args .rounding) (ratios n d)) (ap₂ pair (plain (s .fits .nl)) (plain (s .fits .nu))) (ap₂ pair (f .0) (f .1) ∙ h)
 
 pub by-free-spec : {M : Type 1} → statement M
 by-free-spec = tie.close (tie.spec (λ c κs. search needs) (λ c κs. search needs) returns)

@@ -1,15 +1,13 @@
 -- Both ends, the upper one rounded in the other direction.
 use borrow.Author.Needs.{needs}
-use mathlib.Core.Path.{_≡_, refl, ap, _∙_}
+use mathlib.Core.Path.{_≡_, refl, ap, ap₂, _∙_}
 use mathlib.Core.Bool.{Bool, not}
 use lib.IntN.{ℤ}
 use mir.Syntax.{w64}
 use Rattle.integers.specs.Locals.{plain, got}
-use Rattle.directed.specs.Answer.{built, in-range}
-use Rattle.directed.specs.Thousandths.{Pair, pair}
+use Rattle.directed.specs.Thousandths.{pair}
 use Rattle.arithmetic.specs.Quotient.{nearest-ratio}
 use Rattle.arithmetic.specs.QuotientLaws.{ratios-rounded}
-use Rattle.arithmetic.proofs.Shared.{landed}
 use Rattle.arithmetic.proofs.quotients.ratios.Statement.{statement}
 use Rattle.arithmetic.proofs.quotients.ratios.Tie as tie
 
@@ -18,15 +16,14 @@ same e f g = rw (e, f, g) refl
 
 returns : tie.Need-returns
 returns c =
-    let u = c .before in
-    let l = u .before in
+    let l = c .before in
     let w = l .before in
     let f = w .before .fits in
     let s = w .before .args in
-    landed (c .in-range .ensures)
+    ap₂ pair
     (got w64 (l .ratio .ok) (l .ratio .ensures ∙ same (w .lower-up .ensures) (plain (f .nl)) (plain (f .dl))))
-    (got w64 (u .ratio2 .ok) (u .ratio2 .ensures ∙ same (ap not (w .lower-up .ensures)) (plain (f .nu)) (plain (f .du))))
-    ∙ ap (λ (p : Pair). built (in-range p)) (ratios-rounded (s .rounding) (pair (s .nl) (s .nu)) (pair (s .dl) (s .du)))
+    (got w64 (c .ratio2 .ok) (c .ratio2 .ensures ∙ same (ap not (w .lower-up .ensures)) (plain (f .nu)) (plain (f .du))))
+    ∙ ratios-rounded (s .rounding) (pair (s .nl) (s .nu)) (pair (s .dl) (s .du))
 
 pub ratios-spec : {M : Type 1} → statement M
-ratios-spec = tie.close (tie.spec (λ c κs. search needs) (λ c κs. search needs) (λ c κs. search needs) (λ c κs. search needs) returns)
+ratios-spec = tie.close (tie.spec (λ c κs. search needs) (λ c κs. search needs) (λ c κs. search needs) returns)
