@@ -7,13 +7,16 @@ ghost use Rattle.directed.specs.Answer as answer;
 ghost use Rattle.directed.specs.Answer.{outcome, built};
 ghost use Rattle.directed.specs.Equation as meaning;
 ghost use Rattle.arithmetic.specs.Division.{nearest};
+ghost use Rattle.directed.specs.Claim.{replied, claim};
 use directed::Answer;
 use directed::Binary;
 use directed::Cause;
+use directed::Claimed;
 use directed::Interval;
 use directed::Rounding;
 use directed::Unary;
 
+mod claims;
 mod division;
 mod ends;
 mod operations;
@@ -100,4 +103,23 @@ pub fn equation(a: Interval, c: Interval, b: Interval, rounding: Rounding) -> An
         return Answer::Refused(Cause::EndBeyondRange);
     }
     unjudged_equation(a, c, b, rounding)
+}
+
+// Whether a count that another machine claims contains the one x of a + c × x = b, and whether it is moreover our outward count; 5 where c holds zero.
+pub fn claim(a: Interval, c: Interval, b: Interval, claimed: Interval) -> Claimed
+    ensures { λ r. ⌜ replied r ≡ claim a c b claimed ⌝ }
+{
+    if a.is_faulty() {
+        return Claimed::Refused(Cause::EndBeyondRange);
+    }
+    if c.is_faulty() {
+        return Claimed::Refused(Cause::EndBeyondRange);
+    }
+    if b.is_faulty() {
+        return Claimed::Refused(Cause::EndBeyondRange);
+    }
+    if claimed.is_faulty() {
+        return Claimed::Refused(Cause::EndBeyondRange);
+    }
+    claims::told(claimed, operations::count(a, c, b, Rounding::Outward))
 }

@@ -4,7 +4,7 @@ use mathlib.Core.Bool.{true}
 use mathlib.Core.Path.{_≡_, _∙_, sym, refl, ap}
 use Rattle.directed.specs.Answer.{Outcome, value, refusal, outcome, built, Judgement, unless, divisor, stop, in-range, divided, unjudged-binary, stored-binary}
 use Rattle.directed.specs.Equation.{solution, rest, unjudged-equation, deciding-sort, solved-by, stored-equation}
-use Rattle.directed.specs.Exact.{Sign, Sort, sort, zero-free, holds-zero}
+use Rattle.directed.specs.Exact.{Sign, Sort, sort, zero-free, holds-zero, _≋_}
 use Rattle.directed.specs.Exact as exactly
 use Rattle.directed.specs.Kind.{sort-of}
 use Rattle.directed.specs.KindLaws.{sort-kind, agrees-iff, interval-agrees}
@@ -29,6 +29,12 @@ use Rattle.directed_laws.specs.Thousandths.{difference-exact}
 
 pub agrees-sort : (a : Interval) → agrees a ≡ true → sort-of (a .kind) ≡ sort (exact (pair-of a))
 agrees-sort a e = ap sort-of (agrees-iff a .0 e) ∙ sort-kind (pair-of a)
+
+-- what is left of b over the dual of a zero-free c is the solution
+pub rest-solution : (a c b : Pair) (s : Sign) → sort (exact c) ≡ zero-free s → product (sort (exact (rest a b))) (zero-free s) (exact (rest a b)) (reciprocal (exactly.dual (exact c))) ≋ solution (exact a) (exact c) (exact b)
+rest-solution a c b s e =
+    rw (← reciprocal-free (exact c) s e)
+    (product-cong _ (reciprocal (exactly.dual (exact c))) _ (reciprocal (exactly.dual (exact c))) (λ i. ≈-sym (difference-exact b (dual a) i)) (λ i. ≈-refl _))
 
 module _ (rounding : Rounding) where
   -- ---- operations on two
@@ -55,7 +61,7 @@ module _ (rounding : Rounding) where
   -- ---- the equation
   free-divided : (a p b : Pair) (s : Sign) → sort (exact p) ≡ zero-free s → divided rounding (sort (exact (rest a b))) (exact (rest a b)) (zero-free s) (exactly.dual (exact p)) ≡ in-range (rounded rounding (solution (exact a) (exact p) (exact b)))
   unfolding divided divisor
-  free-divided a p b s e = rw (← reciprocal-free (exact p) s e) (ap in-range (rounded-cong rounding _ _ (product-cong _ (reciprocal (exactly.dual (exact p))) _ (reciprocal (exactly.dual (exact p))) (λ i. ≈-sym (difference-exact b (dual a) i)) (λ i. ≈-refl _))))
+  free-divided a p b s e = ap in-range (rounded-cong rounding _ _ (rest-solution a p b s e))
 
   deciding-sort-is : (c : Pair) → deciding-sort (sort (exact c)) (deciding (sort (exact c)) c) ≡ sort (exact (deciding (sort (exact c)) c))
   unfolding deciding
