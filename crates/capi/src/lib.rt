@@ -19,9 +19,13 @@ ghost use Rattle.sheet.specs.Sheet as sheet;
 ghost use Rattle.series.specs.Series.{first-of, next-of, reply};
 ghost use Rattle.series.specs.Series as generator;
 ghost use Rattle.capi.specs.Effect.{way, effect, done, paired, paired-result, effect-of, stepless, length-effect, length-effect-of, writing-effect, writing-effect-of, returned-for, block-effect, block-effect-of, list-effect-of, series-effect-of};
+ghost use Rattle.directed.specs.Claim.{replied, claim};
+ghost use Rattle.capi.specs.Claim.{yes, bytes, replies-effect, replies-effect-of};
 use directed::Answer;
 use directed::Binary;
+use directed::Claimed;
 use directed::Interval;
+use directed::Replies;
 use directed::Rounding;
 use directed::Unary;
 use directed::Verdict;
@@ -365,4 +369,52 @@ pub extern "C" fn dzb_next_list(
 {
     let answer = series::next(constants, list, buffer);
     give_generated(answer, length)
+}
+
+// ---- a count that another machine claims
+
+fn byte(reply: bool) -> u8
+    ensures { λ r. ⌜ r ≡ yes reply ⌝ }
+{
+    if reply { 1 } else { 0 }
+}
+
+fn put_replies(told: Replies, replies: &mut [u8; 2]) -> u32
+    ensures { λ r. ⌜ replies-effect r (now (replies .exit)) ≡ replies-effect 0 (bytes told) ⌝ }
+{
+    let contains = byte(told.contains);
+    let printed = byte(told.printed);
+    *replies = [contains, printed];
+    0
+}
+
+fn give_replies(answer: Claimed, replies: &mut [u8; 2]) -> u32
+    ensures { λ r. ⌜ replies-effect r (now (replies .exit)) ≡ replies-effect-of (replied answer) (now (replies .entry)) ⌝ }
+{
+    match answer {
+        Claimed::Replied(told) => put_replies(told, replies),
+        Claimed::Refused(cause) => cause.number() as u32,
+    }
+}
+
+// Causes 2, 5. The ends of the claim are pl and pu.
+#[no_mangle]
+pub extern "C" fn dzb_claim(
+    al: i32,
+    au: i32,
+    cl: i32,
+    cu: i32,
+    bl: i32,
+    bu: i32,
+    pl: i32,
+    pu: i32,
+    replies: &mut [u8; 2],
+) -> u32
+    ensures { λ r. ⌜ replies-effect r (now (replies .exit)) ≡ replies-effect-of (claim (interval (pair al au)) (interval (pair cl cu)) (interval (pair bl bu)) (interval (pair pl pu))) (now (replies .entry)) ⌝ }
+{
+    let a = Interval::new(al, au);
+    let c = Interval::new(cl, cu);
+    let b = Interval::new(bl, bu);
+    let claimed = Interval::new(pl, pu);
+    give_replies(arithmetic::claim(a, c, b, claimed), replies)
 }
