@@ -180,6 +180,15 @@ uint32_t dzb_first_list(size_t constants, uint8_t *buffer, size_t length, size_t
  * isn't in the series, then 3. `list` and `buffer` are places apart. */
 uint32_t dzb_next_list(size_t constants, const uint8_t *list, size_t list_length, uint8_t *buffer, size_t length, size_t *written);
 
+/* ---- counts from other machines */
+
+/* Of a pair that another machine claims to be the x of a + c times x = b: replies[0] is 1 if it contains the one exact solution, and replies[1]
+ * is 1 if it is moreover the pair that dzb_equation returns outward; each is 0 if not. Where dzb_equation would refuse with 4, replies[1] is 0 and
+ * replies[0] still says whether the claim contains the solution. Refused, with nothing written: 2, also for the claim's ends, then 5 where c
+ * holds zero. */
+uint32_t dzb_claim(int32_t a_lower, int32_t a_upper, int32_t c_lower, int32_t c_upper, int32_t b_lower, int32_t b_upper, int32_t claim_lower,
+                   int32_t claim_upper, uint8_t replies[2]);
+
 #ifdef __cplusplus
 }
 #endif

@@ -169,6 +169,21 @@ def operation(way, name, pairs, kinds=''):
     return unjudged(way, name, pairs)
 
 
+# ---- document 02, Q-11: "Counts from other makers"
+
+def lies_in(a, b):
+    return b[0] <= a[0] and a[1] <= b[1]
+
+
+def claim(a, c, b, claimed):
+    """Whether the claimed pair contains the one exact solution, and whether it is moreover our outward count; 5 for any c that holds zero."""
+    refuse(2, any(map(beyond, (a, c, b, claimed))))
+    refuse(5, not sign(c))
+    solution = quotient(difference(units(b), dual(units(a))), dual(units(c)))
+    count = rounded(OUTWARD, solution)
+    return lies_in(solution, units(claimed)), claimed == count and not beyond(count)
+
+
 # ---- "Lists of steps"
 
 CONSTANT = 0

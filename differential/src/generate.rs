@@ -66,7 +66,7 @@ fn end_beyond(r: &mut Random) -> i64 {
 }
 
 /// A pair of any kind; equal or neighbouring ends are as likely as apart.
-fn pair(r: &mut Random) -> (i64, i64) {
+pub fn pair(r: &mut Random) -> (i64, i64) {
     let lower = end(r);
     match r.below(5) {
         0 => (lower, lower),
@@ -109,7 +109,7 @@ fn solvable(c: (i64, i64), r: &mut Random) -> (i64, i64) {
 }
 
 /// The pairs that an operation is given: often such that its result is near the range's edge, or in it where random pairs would not be.
-fn pairs_for(operation: Operation, r: &mut Random) -> [(i64, i64); 3] {
+pub fn pairs_for(operation: Operation, r: &mut Random) -> [(i64, i64); 3] {
     let near = |x: i64, r: &mut Random| x + r.between(-3, 3);
     let mut p = [pair(r), pair(r), pair(r)];
     let target = |r: &mut Random| if r.percent(30) { near(r.one_of(&[RANGE, -RANGE]), r) } else { end(r) };

@@ -1,6 +1,7 @@
 //! The archive compared with document 01: see README.md at the repository's root, and `--help`.
 
 mod case;
+mod claim;
 mod containment;
 mod day;
 mod exact;
@@ -227,6 +228,10 @@ fn main() {
         Err(message) => stop(&format!("FAILED: {message}")),
     }
     match series::compare(options.seed) {
+        Ok(told) => println!("{told}"),
+        Err(message) => stop(&format!("FAILED: {message}")),
+    }
+    match claim::compare(options.seed) {
         Ok(told) => println!("{told}"),
         Err(message) => stop(&format!("FAILED: {message}")),
     }

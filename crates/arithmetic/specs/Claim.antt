@@ -2,7 +2,7 @@
 use mathlib.Core.Bool.{false}
 use mathlib.Core.List.{[], _∷_}
 use mathlib.Core.Path.{_≡_, _∙_, sym, refl, ap, ap₂}
-use Rattle.directed.specs.Answer.{Outcome, value, refusal, unless, given, sound, divisor}
+use Rattle.directed.specs.Answer.{Outcome, value, refusal, unless, given, sound, cause, divisor}
 use Rattle.directed.specs.Claim.{replies, covers, same, is-count, examined, claim}
 use Rattle.directed.specs.Equation.{rest, solution}
 use Rattle.directed.specs.Exact as exactly
@@ -14,7 +14,8 @@ use Rattle.directed.specs.Thousandths.{Pair, exact, beyond-range, rounded}
 use Rattle.directed.specs.declared.Interval.{Interval}
 use Rattle.directed.specs.declared.Replies.{Replies}
 use Rattle.directed.specs.declared.Rounding.the-variants.{Outward}
-use Rattle.directed_laws.specs.Claim.{given-sound, contains-rounded, is-count-rounded, count-free}
+use Rattle.directed_laws.specs.Answer.{given-sound}
+use Rattle.directed_laws.specs.Claim.{contains-rounded, is-count-rounded, count-free}
 use Rattle.directed_laws.specs.Rounding.{rounded-cong}
 use Rattle.directed_laws.specs.Stored.{agrees-sort, rest-solution}
 use Rattle.arithmetic.specs.Quotient.{quotient, count}
@@ -35,6 +36,10 @@ module _ (a c b p : Pair) (inside : beyond-range p ≡ false) where
       let x : Exact = solution (exact a) (exact c) (exact b) in
       ap (λ (q : Pair). value (compared p q)) (rounded-cong Outward _ x (rest-solution a c b s e))
       ∙ ap value (ap₂ replies (sym (contains-rounded p x)) (sym (ap (is-count p) (count-free a c b s e) ∙ is-count-rounded p (rounded Outward x) inside)))
+
+pub claim-refused : (a c b p : Interval) → given (a ∷ c ∷ b ∷ p ∷ []) ≡ cause 2 → refusal 2 ≡ claim a c b p
+unfolding claim
+claim-refused a c b p g = rw g refl
 
 pub claim-told : (a c b p : Interval) → given (a ∷ c ∷ b ∷ p ∷ []) ≡ sound → answered (pair-of p) (count Outward a c b) ≡ claim a c b p
 unfolding quotient claim

@@ -2,18 +2,20 @@
 // exactly if it contains that.
 ghost use mathlib.Core.Path.{_≡_};
 ghost use mathlib.Core.Bool.{_&&_};
-ghost use Rattle.directed.specs.Claim.{replied, covers};
+ghost use Rattle.directed.specs.Claim.{replied, covers, claim};
 ghost use Rattle.directed.specs.Lift.{pair-of};
 ghost use Rattle.directed.specs.Thousandths.{pair};
 ghost use Rattle.arithmetic.specs.Claim.{compared, answered};
 ghost use Rattle.arithmetic.specs.Quotient.{unbounded};
 use crate::ends;
+use crate::operations;
 use crate::products::Ends;
 use crate::quotients::Unbounded;
 use directed::Cause;
 use directed::Claimed;
 use directed::Interval;
 use directed::Replies;
+use directed::Rounding;
 
 // Whether q lies in p.
 fn covers(p: Ends, q: Ends) -> bool
@@ -46,11 +48,29 @@ fn wide(a: Interval) -> Ends
     }
 }
 
-pub fn told(claim: Interval, count: Unbounded) -> Claimed
+fn told(claim: Interval, count: Unbounded) -> Claimed
     ensures { λ r. ⌜ replied r ≡ answered (pair-of claim) (unbounded count) ⌝ }
 {
     match count {
         Unbounded::Ends(q) => Claimed::Replied(compared(wide(claim), q)),
         Unbounded::ZeroDivisor => Claimed::Refused(Cause::ZeroDivisor),
     }
+}
+
+pub fn judged(a: Interval, c: Interval, b: Interval, claimed: Interval) -> Claimed
+    ensures { λ r. ⌜ replied r ≡ claim a c b claimed ⌝ }
+{
+    if a.is_faulty() {
+        return Claimed::Refused(Cause::EndBeyondRange);
+    }
+    if c.is_faulty() {
+        return Claimed::Refused(Cause::EndBeyondRange);
+    }
+    if b.is_faulty() {
+        return Claimed::Refused(Cause::EndBeyondRange);
+    }
+    if claimed.is_faulty() {
+        return Claimed::Refused(Cause::EndBeyondRange);
+    }
+    told(claimed, operations::count(a, c, b, Rounding::Outward))
 }

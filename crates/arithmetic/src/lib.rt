@@ -109,17 +109,5 @@ pub fn equation(a: Interval, c: Interval, b: Interval, rounding: Rounding) -> An
 pub fn claim(a: Interval, c: Interval, b: Interval, claimed: Interval) -> Claimed
     ensures { λ r. ⌜ replied r ≡ claim a c b claimed ⌝ }
 {
-    if a.is_faulty() {
-        return Claimed::Refused(Cause::EndBeyondRange);
-    }
-    if c.is_faulty() {
-        return Claimed::Refused(Cause::EndBeyondRange);
-    }
-    if b.is_faulty() {
-        return Claimed::Refused(Cause::EndBeyondRange);
-    }
-    if claimed.is_faulty() {
-        return Claimed::Refused(Cause::EndBeyondRange);
-    }
-    claims::told(claimed, operations::count(a, c, b, Rounding::Outward))
+    claims::judged(a, c, b, claimed)
 }

@@ -88,6 +88,18 @@ given-by P (a ∷ rest) s c = go (faulty a) (given-by P rest s c)
     go true h = c
     go false h = h
 
+pub given-none : given [] ≡ sound
+unfolding given
+given-none = refl
+
+pub given-stopped : (a : Interval) (rest : List Interval) → faulty a ≡ true → given (a ∷ rest) ≡ cause 2
+unfolding given
+given-stopped a rest e = rw e refl
+
+pub given-passed : (a : Interval) (rest : List Interval) {j : Judgement} → faulty a ≡ false → given rest ≡ j → given (a ∷ rest) ≡ j
+unfolding given
+given-passed a rest e f = rw e f
+
 -- ---- what can't be
 pub refusal-clash : {A : Type 0} (m n : ℕ) → eqb m n ≡ false → _≡_ {A = Outcome A} (refusal m) (refusal n) → ⊥
 refusal-clash m n h e = let f : m ≡ n = cc in true≢false (sym (eq-eqb m n f) ∙ h)
@@ -100,6 +112,14 @@ sound-cause e = let z : _≡_ {A = ℕ} 0 1 = cc in omega arith
 
 pub cause-clash : {m n : ℕ} → cause m ≡ cause n → eqb m n ≡ false → ⊥
 cause-clash {m} {n} e h = let f : m ≡ n = cc in true≢false (sym (eq-eqb m n f) ∙ h)
+
+pub given-sound : (a : Interval) (rest : List Interval) → given (a ∷ rest) ≡ sound → (faulty a ≡ false) × (given rest ≡ sound)
+unfolding given
+given-sound a rest e = go (faulty a) e
+  where
+    go : (k : Bool) → cond k (cause 2) (given rest) ≡ sound → (k ≡ false) × (given rest ≡ sound)
+    go true e = absurd (sound-cause (sym e))
+    go false e = (refl, e)
 
 -- ---- and so: each number exactly if its cause holds and none before it does
 module _ (rounding : Rounding) (operands : List Interval) (stop : Judgement) (x : Exact) (between : Between stop) where

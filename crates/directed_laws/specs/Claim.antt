@@ -6,7 +6,7 @@ use mathlib.Core.Path.{_≡_, _∙_, sym, refl, ap, ap₂}
 use Prim.Native.Nat.{ℕ}
 use lib.Dec.{eqb}
 use Rattle.integers.specs.Locals.{le-true, true-le}
-use Rattle.directed.specs.Answer.{Outcome, outcome, built, Judgement, sound, cause, unless, given, divisor, within-range, in-range, value, refusal}
+use Rattle.directed.specs.Answer.{Outcome, outcome, built, sound, cause, unless, given, divisor, within-range, in-range, value, refusal}
 use Rattle.directed.specs.Choice.{and-true}
 use Rattle.directed.specs.Claim.{replies, replied, contains, covers, same, is-count, examined, claim}
 use Rattle.directed.specs.Equation.{Solves, solution, unjudged-equation, equation}
@@ -21,7 +21,7 @@ use Rattle.directed.specs.declared.Claimed.{Claimed}
 use Rattle.directed.specs.declared.Interval.{Interval}
 use Rattle.directed.specs.declared.Replies.{Replies}
 use Rattle.directed.specs.declared.Rounding.the-variants.{Outward}
-use Rattle.directed_laws.specs.Answer.{given-by, refusal-clash, refusal-value, sound-cause}
+use Rattle.directed_laws.specs.Answer.{given-by, given-sound, refusal-clash, refusal-value, sound-cause}
 use Rattle.directed_laws.specs.Equation.{solution-exists, solution-unique}
 use Rattle.directed_laws.specs.Fraction.{≈-sym}
 use Rattle.directed_laws.specs.Isotone.{⊑-trans, ≋→⊑}
@@ -173,14 +173,6 @@ module _ (a c b p : Interval) where
       go g (holds-zero t) e = is-held g (ap divisor e)
 
 -- ---- of what the functions return, by their contracts alone
-pub given-sound : (a : Interval) (rest : List Interval) → given (a ∷ rest) ≡ sound → (faulty a ≡ false) × (given rest ≡ sound)
-unfolding given
-given-sound a rest e = go (faulty a) e
-  where
-    go : (k : Bool) → cond k (cause 2) (given rest) ≡ sound → (k ≡ false) × (given rest ≡ sound)
-    go true e = absurd (sound-cause (sym e))
-    go false e = (refl, e)
-
 given-last : (rest : List Interval) (p : Interval) → given (rest ++ p ∷ []) ≡ sound → (given rest ≡ sound) × (faulty p ≡ false)
 unfolding given
 given-last [] p e = (refl, given-sound p [] e .0)

@@ -1,6 +1,5 @@
 -- `capi::give_replies` meets its contract.
 use borrow.Author.Needs.{needs}
-use native.Mathlib.Omega.{arith}
 use Rattle.capi.specs.Claim.{replies-effect-of}
 use Rattle.capi.proofs.give_replies.Statement.{statement}
 use Rattle.capi.proofs.give_replies.Tie as tie

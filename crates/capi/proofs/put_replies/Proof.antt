@@ -1,7 +1,7 @@
 -- `capi::put_replies` writes both replies.
 use borrow.Author.Needs.{needs}
 use mathlib.Core.List.{[], _∷_}
-use mathlib.Core.Path.{_≡_, refl, ap₂}
+use mathlib.Core.Path.{ap₂}
 use Prim.Native.Nat.{ℕ}
 use Rattle.capi.specs.Claim.{replies-effect}
 use Rattle.capi.proofs.put_replies.Statement.{statement}
