@@ -60,7 +60,7 @@ enum dzb_cause {
     DZB_END_BEYOND_RANGE = 2,    /* a given end beyond the range */
     DZB_SHORT_BUFFER = 3,        /* buffer for a text shorter than that text */
     DZB_RESULT_BEYOND_RANGE = 4, /* a rounded end beyond the range */
-    DZB_ZERO_DIVISOR = 5,        /* divisor holds zero */
+    DZB_ZERO_DIVISOR = 5,        /* divisor, or c of a claim, holds zero */
     DZB_UNKNOWN_CODE = 6,        /* unknown step code, or letter in a line */
     DZB_SHORT_CONSTANT = 7,      /* fewer than 8 bytes after code 0 */
     DZB_STACK_UNDERFLOW = 8,     /* too few values for a step */
