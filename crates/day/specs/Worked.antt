@@ -6,7 +6,7 @@ use lib.ListN.{set}
 use Rattle.directed.specs.Thousandths.{pair, outside, beyond-range}
 use Rattle.directed.specs.Result.{value, refusal}
 use Rattle.decimal.specs.Digits.{digits, width-within, width, decimal}
-use Rattle.text.specs.Text.{size-text, sign-text, end-text, text}
+use Rattle.text.specs.Text.{size-text, sign-text, end-text, framed, text}
 use Rattle.blocks.specs.Block.{Record, record-of, record-bytes, records-bytes, contents, byte-sum, block, records-from, records, summed, all-zero, all-within, headed, laid-out, judgement, sum-of}
 use Rattle.day.specs.File.{cut, blocks-of, judgement-at, accepted-at, all-records, total-of, report, line}
 use Rattle.day.specs.Tally.{total-of-count}
@@ -26,5 +26,5 @@ pub worked :
     × (line (refusal 13 100) ≡ 82 ∷ 32 ∷ 49 ∷ 51 ∷ 32 ∷ 49 ∷ 48 ∷ 48 ∷ 10 ∷ [])
     -- 3,000 records at the ends of the range
     × (line (value (total-of-count 3000 (pair (pos 6000000000000) (negsuc 5999999999999)))) ≡ 51 ∷ 48 ∷ 48 ∷ 48 ∷ 32 ∷ 91 ∷ 54 ∷ 48 ∷ 48 ∷ 48 ∷ 48 ∷ 48 ∷ 48 ∷ 48 ∷ 48 ∷ 48 ∷ 46 ∷ 48 ∷ 48 ∷ 48 ∷ 44 ∷ 45 ∷ 54 ∷ 48 ∷ 48 ∷ 48 ∷ 48 ∷ 48 ∷ 48 ∷ 48 ∷ 48 ∷ 48 ∷ 46 ∷ 48 ∷ 48 ∷ 48 ∷ 93 ∷ 10 ∷ [])
-unfolding digits width-within width decimal size-text sign-text end-text text outside beyond-range record-bytes records-bytes contents byte-sum block records-from records summed all-zero all-within headed laid-out judgement sum-of cut blocks-of judgement-at accepted-at all-records total-of report line
+unfolding digits width-within width decimal size-text sign-text end-text framed text outside beyond-range record-bytes records-bytes contents byte-sum block records-from records summed all-zero all-within headed laid-out judgement sum-of cut blocks-of judgement-at accepted-at all-records total-of report line
 worked = (refl, refl, refl, refl, refl, refl, refl)

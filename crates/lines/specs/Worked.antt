@@ -52,5 +52,5 @@ printed =
     52 ∷ 32 ∷ 82 ∷ 32 ∷ 53 ∷ 10 ∷ []
 
 pub example : output input ≡ printed
-unfolding output output-line with-number body answer of-fields by-letters operate first-letter second-letter one-letter fields input printed floor.floor-nat floor.floor floor.ceiling fraction.-ᶠ_ fraction._+ᶠ_ fraction._-ᶠ_ fraction._*ᶠ_ fraction.over exactly.direction exactly.sort exactly.smaller exactly.larger operations.none-free operations.product operations.binary thousandths.outside thousandths.beyond-range thousandths.smaller thousandths.larger thousandths.round-down thousandths.round-up answers.within-range answers.divisor answers.stop answers.unjudged-binary solutions.solvable solutions.deciding equations.unjudged-equation digits.is-digit digits.starts digits.front-digits digits.number-behind digits.number digits.digits digits.width-within digits.width digits.decimal texts.size-text texts.sign-text texts.end-text texts.text forms.whole forms.behind-whole forms.pointed forms.fraction forms.scaled forms.size-form forms.size forms.size-length forms.sign-length forms.unsigned forms.end-form forms.signed forms.end-value forms.end-length forms.from-lower forms.behind-lower forms.from-upper forms.behind-upper forms.pair-form forms.pair-length forms.form forms.value-of reading.read
+unfolding output output-line with-number body answer of-fields by-letters operate first-letter second-letter one-letter fields input printed floor.floor-nat floor.floor floor.ceiling fraction.-ᶠ_ fraction._+ᶠ_ fraction._-ᶠ_ fraction._*ᶠ_ fraction.over exactly.direction exactly.sort exactly.smaller exactly.larger operations.none-free operations.product operations.binary thousandths.outside thousandths.beyond-range thousandths.smaller thousandths.larger thousandths.round-down thousandths.round-up answers.within-range answers.divisor answers.stop answers.unjudged-binary solutions.solvable solutions.deciding equations.unjudged-equation digits.is-digit digits.starts digits.front-digits digits.number-behind digits.number digits.digits digits.width-within digits.width digits.decimal texts.size-text texts.sign-text texts.end-text texts.framed texts.text forms.whole forms.behind-whole forms.pointed forms.fraction forms.scaled forms.size-form forms.size forms.size-length forms.sign-length forms.unsigned forms.end-form forms.signed forms.end-value forms.end-length forms.from-lower forms.behind-lower forms.from-upper forms.behind-upper forms.pair-form forms.pair-length forms.form forms.value-of reading.read
 example = refl

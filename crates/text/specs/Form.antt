@@ -58,6 +58,10 @@ end-value t = signed (starts minus t) (size (unsigned t))
 unfoldable pub end-length : List ℕ → ℕ
 end-length t = sign-length t + size-length (unsigned t)
 
+-- an end as 01 writes it: "`.`, and three digits"
+unfoldable pub written-form : List ℕ → Bool
+written-form t = end-form t && eqb (length (fraction (unsigned t))) 3
+
 -- where the lower end begins, what follows it, where the upper end begins, and what follows that
 unfoldable pub from-lower : List ℕ → List ℕ
 from-lower t = drop 1 t

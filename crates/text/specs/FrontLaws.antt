@@ -14,8 +14,8 @@ use Rattle.directed.specs.Answer.{refusal, within-range}
 use Rattle.text.specs.Answer.{read, front-answer, line-front}
 use Rattle.text.specs.declared.size.SizeRead.the-variants as S
 use Rattle.text.specs.declared.front.Lead.the-variants as L
-use Rattle.text.specs.declared.front.EndRead.{EndRead}
-use Rattle.text.specs.declared.front.EndRead.the-variants as E
+use Rattle.text.specs.declared.EndRead.{EndRead}
+use Rattle.text.specs.declared.EndRead.the-variants as E
 use Rattle.text.specs.declared.PairFront.{PairFront}
 use Rattle.text.specs.declared.PairFront.the-variants as F
 use Rattle.decimal.specs.Digits.{is-digit, starts, front-digits}

@@ -12,8 +12,8 @@ use Rattle.text.specs.declared.size.SizeRead.{SizeRead}
 use Rattle.text.specs.declared.size.SizeRead.the-variants as S
 use Rattle.text.specs.declared.front.Lead.{Lead}
 use Rattle.text.specs.declared.front.Lead.the-variants as L
-use Rattle.text.specs.declared.front.EndRead.{EndRead}
-use Rattle.text.specs.declared.front.EndRead.the-variants as E
+use Rattle.text.specs.declared.EndRead.{EndRead}
+use Rattle.text.specs.declared.EndRead.the-variants as E
 use Rattle.text.specs.declared.PairFront.{PairFront}
 use Rattle.text.specs.declared.PairFront.the-variants as F
 use Rattle.decimal.specs.Digits.{is-digit, number-behind, starts, front-digits}

@@ -4,31 +4,31 @@ use mathlib.Core.Path.{_≡_, refl, sym, ap, _∙_}
 use mathlib.Core.Bool.{Bool, true, false, cond}
 use mathlib.Core.List.{List, [], _∷_}
 use mathlib.Core.Logic.{_↔_}
-use Prim.Native.Nat.{ℕ, _+_, _%_, _≤_, _<_}
+use Prim.Native.Nat.{ℕ, _+_, _≤_, _<_}
 use native.Mathlib.Omega.{arith}
-use lib.Dec.{leb, eqb}
+use lib.Dec.{eqb}
 use lib.IntN.{negsuc, natAbs}
-use lib.ListN.{length, take, drop}
-use lib.Seq.{take-append-seam, take-all}
-use borrow.Author.Tests.{leb-true, leb-false, le-leb, lt-leb, eqb-true, eq-eqb}
+use lib.ListN.{length, take}
+use lib.Seq.{take-all}
+use borrow.Author.Tests.{eqb-true, eq-eqb}
 use Rattle.directed.specs.declared.Interval.{Interval}
 use Rattle.directed.specs.Thousandths.{Pair, pair, outside, beyond-range}
-use Rattle.directed.specs.Choice.{if_then_else_}
 use Rattle.directed.specs.Lift.{pair-of, interval, faulty}
 use Rattle.directed.specs.KindLaws.{agrees-built, sound-parts}
-use Rattle.directed.specs.Answer.{Outcome, value, refusal, outcome, built, unless, given, sound, cause, within-range}
+use Rattle.directed.specs.Answer.{Outcome, value, refusal, outcome, built, given, sound, cause, within-range}
 use Rattle.decimal.specs.Place.{over}
 use Rattle.decimal.specs.Digits.{digits, width, width-within, decimal}
 use Rattle.directed.specs.declared.Answer.{Answer}
 use Rattle.directed.specs.declared.Answer.the-variants.{Value}
 use Rattle.text.specs.declared.Written.{Written}
 use Rattle.text.specs.declared.Written.the-variants.{Length}
-use Rattle.text.specs.Text.{text, end-text, sign-text, size-text, longest}
+use Rattle.text.specs.Text.{text, framed, end-text, sign-text, size-text, longest}
 use Rattle.text.specs.Form.{pair-form, pair-length, form, value-of}
-use Rattle.text.specs.Answer.{read, told, writing, in-room, leaving, write}
+use Rattle.text.specs.Answer.{read, told, writing, write}
+use Rattle.text.specs.WriteLaws.{judged-cause, judged-room, judged-value-iff, judged-cause-iff, judged-3-iff, judged-refused, judged-is}
 use Rattle.text.specs.EndLaws.{both}
 use Rattle.text.specs.TextLaws.{Short, range-short}
-use Rattle.text.specs.Spelling.{Spells, Spells-end}
+use Rattle.text.specs.Spelling.{Spells-end, text-spells}
 use Rattle.text.specs.PairSpelling.{pair-text, pair-text-length, Pair-facts, spelled-pair, pair-cut}
 
 -- the texts of a pair: each end as it is spelled, in its marks
@@ -68,12 +68,8 @@ pub form-iff : (t : List ℕ) → (form t ≡ true) ↔ ((a : Pair) × Writes t 
 form-iff t = (λ e. (value-of t, form-spelled t e), λ w. spelled-form (w .1))
 
 -- the written text is one of them
-text-spells : (n : ℕ) → Spells n (size-text n)
-unfolding size-text digits
-text-spells n = record { part = digits 3 (n % 1000); short = omega arith; padded = refl; spelled = refl }
-
 pub text-spelled : (a : Pair) → Spelled (text a) a
-unfolding text end-text
+unfolding text framed end-text
 text-spelled a = record {
   lower-part = end-text (a .lower);
   upper-part = end-text (a .upper);
@@ -119,7 +115,7 @@ text-reads-back a e = spelled-reads (text a) a (text-spelled a) e
 -- 3: "The longest valid text has 27 bytes." TextLaws.text-longest has the bound; [-2000000.000,-2000000.000] reaches it
 
 pub text-longest-occurs : (a : Pair) × (beyond-range a ≡ false) × (length (text a) ≡ longest)
-unfolding beyond-range outside text end-text sign-text size-text decimal width width-within digits
+unfolding beyond-range outside text framed end-text sign-text size-text decimal width width-within digits
 text-longest-occurs = (pair (negsuc 1999999999) (negsuc 1999999999), refl, refl)
 
 -- 4: "text of a pair not in its form", and "a given end beyond the range"
@@ -159,74 +155,51 @@ read-2-writes t = (
 
 -- writing: each refusal exactly if its cause holds; then the buffer is as it was, and else its front reads back as the pair
 
--- what is told, by the two tests
-choice : Bool → Bool → ℕ → Outcome ℕ
-choice r f n = cond r (refusal 2) (cond f (value n) (refusal 3))
-
-told-is : (a : Interval) (d : List ℕ) → write a d ≡ leaving (text (pair-of a)) d (choice (faulty a) (leb (length (text (pair-of a))) (length d)) (length (text (pair-of a))))
-unfolding write choice given in-room
-told-is a d = go (faulty a)
+given-sound-iff : (a : Interval) → (given (a ∷ []) ≡ sound) ↔ (faulty a ≡ false)
+unfolding given
+given-sound-iff a = (go (faulty a), λ e. rw e)
   where
-    go : (r : Bool) → leaving (text (pair-of a)) d (unless (if r then cause 2 else sound) (in-room (text (pair-of a)) d))
-        ≡ leaving (text (pair-of a)) d (cond r (refusal 2) (in-room (text (pair-of a)) d))
-    go true = refl
-    go false = refl
+    go : (f : Bool) → cond f (cause 2) sound ≡ sound → f ≡ false
+    go true e = let z : _≡_ {A = ℕ} 0 1 = cc in absurd (omega arith)
+    go false e = refl
+
+given-cause : (a : Interval) (k : ℕ) → given (a ∷ []) ≡ cause k → (faulty a ≡ true) × (k ≡ 2)
+unfolding given
+given-cause a k e = go (faulty a) e
+  where
+    go : (f : Bool) → cond f (cause 2) sound ≡ cause k → (f ≡ true) × (k ≡ 2)
+    go true e = (refl, cc)
+    go false e = let z : _≡_ {A = ℕ} 0 1 = cc in absurd (omega arith)
 
 module _ (a : Interval) (d : List ℕ) where
-  t : List ℕ
-  t = text (pair-of a)
-
   pub write-2-iff : (write a d .answer ≡ refusal 2) ↔ (faulty a ≡ true)
-  unfolding t choice leaving
-  write-2-iff = (λ e. go (faulty a) (leb (length t) (length d)) (ap (λ w. w .answer) (sym (told-is a d)) ∙ e), λ e. rw (told-is a d, e))
-    where
-      go : (r f : Bool) → leaving t d (choice r f (length t)) .answer ≡ refusal 2 → r ≡ true
-      go true f c = refl
-      go false true c = let z : _≡_ {A = ℕ} 0 1 = cc in absurd (omega arith)
-      go false false c = let z : _≡_ {A = ℕ} 3 2 = cc in absurd (omega arith)
+  unfolding write given
+  write-2-iff = (λ e. given-cause a 2 (judged-cause-iff (text (pair-of a)) d (given (a ∷ [])) 2 (λ z. omega arith) .0 e) .0, λ e. rw e (ap (λ w. w .answer) (judged-cause (text (pair-of a)) d 2)))
 
   pub write-3-iff : (write a d .answer ≡ refusal 3) ↔ ((faulty a ≡ false) × (length d < length (text (pair-of a))))
-  unfolding t choice leaving
-  write-3-iff = (
-    λ e. let p = go (faulty a) (leb (length t) (length d)) (ap (λ w. w .answer) (sym (told-is a d)) ∙ e) in (p .0, leb-false _ _ (p .1)),
-    λ w. rw (told-is a d, w .0, lt-leb (length t) (length d) (w .1)),
-  )
-    where
-      go : (r f : Bool) → leaving t d (choice r f (length t)) .answer ≡ refusal 3 → (r ≡ false) × (f ≡ false)
-      go true f c = let z : _≡_ {A = ℕ} 2 3 = cc in absurd (omega arith)
-      go false true c = let z : _≡_ {A = ℕ} 0 1 = cc in absurd (omega arith)
-      go false false c = (refl, refl)
+  unfolding write
+  write-3-iff =
+      let w = judged-3-iff (text (pair-of a)) d (given (a ∷ [])) (λ z. let k = given-cause a 3 z .1 in omega arith) in
+      (λ e. let p = w .0 e in (given-sound-iff a .0 (p .0), p .1), λ p. w .1 (given-sound-iff a .1 (p .0), p .1))
 
   pub write-value-iff : (n : ℕ) → (write a d .answer ≡ value n) ↔ ((faulty a ≡ false) × (length (text (pair-of a)) ≤ length d) × (n ≡ length (text (pair-of a))))
-  unfolding t choice leaving
-  write-value-iff n = (
-    λ e. let p = go (faulty a) (leb (length t) (length d)) (ap (λ w. w .answer) (sym (told-is a d)) ∙ e) in (p .0, leb-true _ _ (p .1), p .2),
-    λ w. rw (told-is a d, w .0, le-leb (length t) (length d) (w .1)) (ap value (sym (w .2))),
-  )
-    where
-      go : (r f : Bool) → leaving t d (choice r f (length t)) .answer ≡ value n → (r ≡ false) × (f ≡ true) × (n ≡ length t)
-      go true f c = let z : _≡_ {A = ℕ} 0 1 = cc in absurd (omega arith)
-      go false true c = (refl, refl, cc)
-      go false false c = let z : _≡_ {A = ℕ} 0 1 = cc in absurd (omega arith)
+  unfolding write
+  write-value-iff n =
+      let w = judged-value-iff (text (pair-of a)) d (given (a ∷ [])) n in
+      (λ e. let p = w .0 e in (given-sound-iff a .0 (p .0), p .1, p .2), λ p. w .1 (given-sound-iff a .1 (p .0), p .1, p .2))
 
   pub write-buffer : faulty a ≡ false → length (text (pair-of a)) ≤ length d → write a d .buffer ≡ over (text (pair-of a)) d
-  unfolding t choice leaving
-  write-buffer e h = rw (told-is a d, e, le-leb (length t) (length d) h)
+  unfolding write
+  write-buffer e h = rw (given-sound-iff a .1 e) (ap (λ w. w .buffer) (judged-room (text (pair-of a)) d h))
 
   pub write-refused : (k : ℕ) → write a d .answer ≡ refusal k → write a d .buffer ≡ d
-  unfolding write leaving
-  write-refused k e = go (unless (given (a ∷ [])) (in-room (text (pair-of a)) d)) e
-    where
-      go : (o : Outcome ℕ) → leaving (text (pair-of a)) d o .answer ≡ refusal k → leaving (text (pair-of a)) d o .buffer ≡ d
-      go (value n) c = let z : _≡_ {A = ℕ} 0 1 = cc in absurd (omega arith)
-      go (refusal k) c = refl
+  unfolding write
+  write-refused k e = judged-refused (text (pair-of a)) d (given (a ∷ [])) k e
 
   -- what is written is the text, and nothing else
   pub written-is : (n : ℕ) → write a d .answer ≡ value n → take n (write a d .buffer) ≡ text (pair-of a)
-  unfolding over t
-  written-is n e =
-      let w = write-value-iff n .0 e in
-      rw (write-buffer (w .0) (w .1), w .2) (take-append-seam t (drop (length t) d))
+  unfolding write
+  written-is n e = judged-is (text (pair-of a)) d (given (a ∷ [])) n e
 
   pub written-reads-back : (n : ℕ) → write a d .answer ≡ value n → read (take n (write a d .buffer)) ≡ value (pair-of a)
   written-reads-back n e = ap read (written-is n e) ∙ text-reads-back (pair-of a) (sound-parts a (write-value-iff n .0 e .0) .0)

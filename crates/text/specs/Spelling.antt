@@ -13,7 +13,7 @@ use lib.Seq.{drop-append-seam, drop-drop}
 use borrow.Author.Tests.{leb-true, le-leb, eqb-true, eq-eqb, ne-eqb, le-ltb}
 use Rattle.decimal.specs.Digits.{is-digit, number, number-behind, digits, decimal, plain, starts, front-digits}
 use Rattle.decimal.specs.DigitLaws.{All-digits, all-append, digit-bounds, digit-not-below, digits-all, number-digits, digits-of, has-width, width-le, decimal-all, decimal-length, decimal-number, number-decimal, decimal-plain, front-split, front-stop}
-use Rattle.text.specs.Text.{minus, point, sign-text}
+use Rattle.text.specs.Text.{minus, point, size-text, sign-text}
 use Rattle.text.specs.EndLaws.{both, starts-cons, seven-places}
 use Rattle.text.specs.Form.{whole, behind-whole, pointed, fraction, scaled, size-form, size, size-length, sign-length, unsigned, end-form, signed, end-value, end-length}
 use Rattle.text.specs.Range.{signed-size}
@@ -40,6 +40,11 @@ pub record Spells-end (z : ℤ) (s : List ℕ) : Type 0 where
   pub rest : List ℕ
   pub spells : Spells (natAbs z) rest
   pub signs : s ≡ sign-text (ltZ z (pos 0)) ++ rest
+
+-- the written text does
+pub text-spells : (n : ℕ) → Spells n (size-text n)
+unfolding size-text digits
+text-spells n = record { part = digits 3 (n % 1000); short = omega arith; padded = refl; spelled = refl }
 
 -- padding
 
@@ -115,7 +120,7 @@ module _ (w g : List ℕ) (b : ℕ) (r : List ℕ) (aw : All-digits w) (ow : 1 �
       go [] = k .no-point
       go (x ∷ f) = sym (le-leb 1 (suc (length f)) (omega arith))
 
-  at-fraction : fraction (w ++ (frac g ++ (b ∷ r))) ≡ g
+  pub at-fraction : fraction (w ++ (frac g ++ (b ∷ r))) ≡ g
   unfolding fraction
   at-fraction = rw (at-pointed, at-behind) (go g ag lg)
     where
@@ -224,11 +229,11 @@ unfolding pointed
 point-behind t e = starts-cons point (behind-whole t) e
 
 module _ (t : List ℕ) (f : size-form t ≡ true) where
-  form-parts : (leb 1 (length (whole t)) ≡ true) × ((not (pointed t) || leb 1 (length (fraction t))) ≡ true)
+  pub form-parts : (leb 1 (length (whole t)) ≡ true) × ((not (pointed t) || leb 1 (length (fraction t))) ≡ true)
   unfolding size-form
   form-parts = both (leb 1 (length (whole t))) (not (pointed t) || leb 1 (length (fraction t))) f
 
-  -- what is behind the whole part: the fraction, and the rest
+  -- how long it is, and what is behind the whole part: the fraction, and the rest
   behind-split : behind-whole t ≡ frac (fraction t) ++ drop (size-length t) t
   unfolding fraction size-length
   behind-split = go (pointed t) refl (form-parts .1)
@@ -245,6 +250,19 @@ module _ (t : List ℕ) (f : size-form t ≡ true) where
           ∙ ap (λ l. point ∷ l) (sym (front-split 3 (drop 1 (behind-whole t))) ∙ ap (λ l. g ++ l) (drop-drop (length g) 1 (behind-whole t) ∙ behind-drop t (1 + length g)))
           ∙ sym (full g (leb-true 1 (length g) p) (drop (length (whole t) + (1 + length g)) t))
       go false e p = behind-drop t 0
+
+  pub size-length-is : size-length t ≡ length (whole t) + length (frac (fraction t))
+  unfolding fraction size-length
+  size-length-is = ap (λ n. length (whole t) + n) (go (pointed t) (form-parts .1))
+    where
+      full : (g : List ℕ) → 1 ≤ length g → 1 + length g ≡ length (frac g)
+      full [] h = absurd (omega arith)
+      full (x ∷ g) h = omega arith
+
+      go : (z : Bool) → (not z || leb 1 (length (cond z (front-digits 3 (drop 1 (behind-whole t))) []))) ≡ true
+          → cond z 1 0 + length (cond z (front-digits 3 (drop 1 (behind-whole t))) []) ≡ length (frac (cond z (front-digits 3 (drop 1 (behind-whole t))) []))
+      go true p = full (front-digits 3 (drop 1 (behind-whole t))) (leb-true 1 _ p)
+      go false p = refl
 
   pub size-split : t ≡ (whole t ++ frac (fraction t)) ++ drop (size-length t) t
   size-split = sym (whole-split t) ∙ ap (λ l. whole t ++ l) behind-split ∙ sym (append-assoc (whole t) (frac (fraction t)) (drop (size-length t) t))
@@ -303,13 +321,13 @@ pub record End-split (t : List ℕ) : Type 0 where
   pub split : t ≡ part ++ drop (end-length t) t
   pub small : natAbs (end-value t) < seven-places
 
-sign-back : (m : Bool) (n : ℕ) → not (m && eqb n 0) ≡ true → ltZ (signed m n) (pos 0) ≡ m
+pub sign-back : (m : Bool) (n : ℕ) → not (m && eqb n 0) ≡ true → ltZ (signed m n) (pos 0) ≡ m
 unfolding signed
 sign-back true zero h = absurd (false≢true h)
 sign-back true (suc n) h = refl
 sign-back false n h = le-ltb n 0 (omega arith)
 
-sign-split : (t : List ℕ) → t ≡ sign-text (starts minus t) ++ unsigned t
+pub sign-split : (t : List ℕ) → t ≡ sign-text (starts minus t) ++ unsigned t
 unfolding unsigned sign-length sign-text
 sign-split t = go (starts minus t) refl
   where

@@ -1,4 +1,5 @@
 // A pair at the front of a text, read with no test of the text's end: the text's last byte is none that a pair goes past.
+use crate::EndRead;
 use crate::PairFront;
 use crate::size;
 use crate::size::SizeRead;
@@ -16,12 +17,6 @@ ghost use Rattle.text.specs.Answer.{front-answer};
 // The sign of an end and its first digit, with the place of that.
 pub enum Lead {
     Found { minus: bool, digit: u64, at: usize },
-    Malformed,
-}
-
-// An end's thousandths with their sign, and the place behind it.
-pub enum EndRead {
-    Found { value: i64, next: usize },
     Malformed,
 }
 
@@ -83,7 +78,7 @@ fn read_signed(text: &[u8], minus: bool, digit: u64, at: usize) -> EndRead
 }
 
 // The end that begins at `from`.
-fn read_end(text: &[u8], from: usize) -> EndRead
+pub fn read_end(text: &[u8], from: usize) -> EndRead
     requires { ⌜ Ended (now text) × (from < length (now text)) ⌝ }
     ensures { λ r. ⌜ r ≡ end-answer (drop from (now (text .entry))) from ⌝ }
 {

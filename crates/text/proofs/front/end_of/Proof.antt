@@ -5,7 +5,7 @@ use borrow.Author.Tests.{eq-eqb, ne-eqb}
 use native.Mathlib.Omega.{arith}
 use mir.Syntax.{w64}
 use mir.ValLaws.{toZ-ofZ, toZ-pos}
-use Rattle.text.specs.declared.front.EndRead.the-variants as E
+use Rattle.text.specs.declared.EndRead.the-variants as E
 use Rattle.text.specs.Form.{signed}
 use Rattle.text.specs.Parts.{end-of}
 use Rattle.text.proofs.Signs.{neg-is, neg-fits}

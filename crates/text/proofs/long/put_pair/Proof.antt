@@ -2,20 +2,21 @@
 use mathlib.Core.Path.{ap}
 use Rattle.decimal.specs.PlaceLaws.{fitting-as}
 use Rattle.integers.specs.Locals.{plain}
-use Rattle.text.specs.Text.{end-text}
-use Rattle.text.proofs.Writes.{pair-fitting}
+use Rattle.text.specs.Text.{end-text, brackets, text}
+use Rattle.text.proofs.Writes.{framed-fitting}
 use borrow.Author.Needs.{needs}
 use Rattle.text.proofs.long.put_pair.Statement.{statement}
 use Rattle.text.proofs.long.put_pair.Tie as tie
 
 returns : tie.Need-returns
+unfolding text
 returns c =
     let upper = c .before .before .before .before in
     let comma = upper .before .before .before .before in
     let lower = comma .before .before .before .before in
     let first = lower .before .before .before .before in
     let s = first .before .before .before .before .before in
-    pair-fitting (s .args .lower) (s .args .upper)
+    framed-fitting brackets (s .args .lower) (s .args .upper)
     (first .before .before .put-byte .ensures)
     (fitting-as (ap end-text (plain (s .fits .lower))) (lower .before .before .put-end .ensures))
     (comma .before .before .put-byte2 .ensures)
