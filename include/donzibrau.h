@@ -75,7 +75,8 @@ enum dzb_cause {
     DZB_SEVERAL_SOLUTIONS = 17,  /* more than one pair of fractions does */
     DZB_SHEET_BOUNDS = 18,       /* a sheet has more than 800 ends, or their number is not a multiple of four */
     DZB_CONSTANT_COUNT = 19,     /* a number of constants that isn't 1 to 4 */
-    DZB_NOT_IN_SERIES = 20       /* a list that isn't in the series */
+    DZB_NOT_IN_SERIES = 20,      /* a list that isn't in the series */
+    DZB_ODD_SUM = 21             /* the sum of the ends is odd in thousandths: no centre */
 };
 
 /* Of a number that dzb_list, dzb_list_within or dzb_burnin_list returned: the refusal number, and the step to which it applies, counted from 0
@@ -188,6 +189,16 @@ uint32_t dzb_next_list(size_t constants, const uint8_t *list, size_t list_length
  * holds zero. */
 uint32_t dzb_claim(int32_t a_lower, int32_t a_upper, int32_t c_lower, int32_t c_upper, int32_t b_lower, int32_t b_upper, int32_t claim_lower,
                    int32_t claim_upper, uint8_t replies[2]);
+
+/* ---- centre and spread: the text (m;r) of the weighbridge office, for the pair whose ends are m - r and m + r */
+
+/* The pair that a text of the office writes: both ends of `result` are written. Centre and radius have three digits behind the point, and a radius
+ * below zero gives an improper pair. Refused, with nothing written: 1, then 2. */
+uint32_t dzb_read_centre(const uint8_t *text, size_t length, dzb_pair result);
+
+/* The office's text of a pair: the front of `buffer` is filled with it, and `written` gets its length, at most DZB_TEXT_BYTES; the bytes behind the text
+ * stay as they are. Refused, with nothing written: 2, then 21, then 3 where `length` is below the text's. */
+uint32_t dzb_write_centre(int32_t lower, int32_t upper, uint8_t *buffer, size_t length, size_t *written);
 
 #ifdef __cplusplus
 }

@@ -287,6 +287,39 @@ def write_text(pair, room):
     return text
 
 
+# ---- document 02, Q-12: "`(m;r)`, centre and radius, each written as 01 writes an end"; "The scale's shorter figures are malformed in this text."
+
+WHOLE_END = rb'(-?)(0|[1-9][0-9]{0,6})\.([0-9]{3})'
+OFFICE = re.compile(rb'\(' + WHOLE_END + rb';' + WHOLE_END + rb'\)')
+
+
+def around(centre, radius):
+    """"the ends are m - r and m + r\""""
+    return centre - radius, centre + radius
+
+
+def read_centre(text):
+    found = OFFICE.fullmatch(text)
+    refuse(1, not found)
+    marks = found.groups()
+    pair = around(end_of(*marks[:3]), end_of(*marks[3:]))
+    refuse(2, beyond(pair))
+    return pair
+
+
+def centre_text(centre, radius):
+    return b'(%s;%s)' % (end_text(centre), end_text(radius))
+
+
+def write_centre(pair, room):
+    """"to the office's text, 21 after 2 and before 3\""""
+    refuse(2, beyond(pair))
+    refuse(21, sum(pair) % 2 == 1)
+    text = centre_text(sum(pair) // 2, (pair[1] - pair[0]) // 2)
+    refuse(3, len(text) > room)
+    return text
+
+
 LETTERS = {b'A': 'sum', b'S': 'difference', b'M': 'product', b'D': 'quotient', b'E': 'equation'}
 
 

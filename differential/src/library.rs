@@ -26,6 +26,8 @@ unsafe extern "C" {
     fn dzb_first_list(constants: usize, buffer: *mut u8, length: usize, written: &mut usize) -> u32;
     fn dzb_next_list(constants: usize, list: *const u8, list_length: usize, buffer: *mut u8, length: usize, written: &mut usize) -> u32;
     fn dzb_claim(a_lower: i32, a_upper: i32, c_lower: i32, c_upper: i32, b_lower: i32, b_upper: i32, claim_lower: i32, claim_upper: i32, replies: &mut [u8; 2]) -> u32;
+    fn dzb_read_centre(text: *const u8, length: usize, result: &mut [i32; 2]) -> u32;
+    fn dzb_write_centre(lower: i32, upper: i32, buffer: *mut u8, length: usize, written: &mut usize) -> u32;
 }
 
 /// The ends of the pairs in the order of the call: two for each pair that the operation takes.
@@ -96,4 +98,12 @@ pub fn next_list(constants: usize, list: &[u8], buffer: &mut [u8], written: &mut
 /// The ends of a, c, b and the claim.
 pub fn claim(e: &[i32], replies: &mut [u8; 2]) -> u32 {
     unsafe { dzb_claim(e[0], e[1], e[2], e[3], e[4], e[5], e[6], e[7], replies) }
+}
+
+pub fn read_centre(text: &[u8], result: &mut [i32; 2]) -> u32 {
+    unsafe { dzb_read_centre(text.as_ptr(), text.len(), result) }
+}
+
+pub fn write_centre(lower: i32, upper: i32, buffer: &mut [u8], written: &mut usize) -> u32 {
+    unsafe { dzb_write_centre(lower, upper, buffer.as_mut_ptr(), buffer.len(), written) }
 }

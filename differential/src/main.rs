@@ -8,6 +8,7 @@ mod exact;
 mod generate;
 mod held;
 mod library;
+mod office;
 mod paper;
 mod program;
 mod random;
@@ -232,6 +233,10 @@ fn main() {
         Err(message) => stop(&format!("FAILED: {message}")),
     }
     match claim::compare(options.seed) {
+        Ok(told) => println!("{told}"),
+        Err(message) => stop(&format!("FAILED: {message}")),
+    }
+    match office::compare(options.seed) {
         Ok(told) => println!("{told}"),
         Err(message) => stop(&format!("FAILED: {message}")),
     }

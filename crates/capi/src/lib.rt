@@ -21,6 +21,7 @@ ghost use Rattle.series.specs.Series as generator;
 ghost use Rattle.capi.specs.Effect.{way, effect, done, paired, paired-result, effect-of, stepless, length-effect, length-effect-of, writing-effect, writing-effect-of, returned-for, block-effect, block-effect-of, list-effect-of, series-effect-of};
 ghost use Rattle.directed.specs.Claim.{replied, claim};
 ghost use Rattle.capi.specs.Claim.{yes, bytes, replies-effect, replies-effect-of};
+ghost use Rattle.office.specs.Answer as office;
 use directed::Answer;
 use directed::Binary;
 use directed::Claimed;
@@ -417,4 +418,28 @@ pub extern "C" fn dzb_claim(
     let b = Interval::new(bl, bu);
     let claimed = Interval::new(pl, pu);
     give_replies(arithmetic::claim(a, c, b, claimed), replies)
+}
+
+// ---- centre and spread, the office's text
+
+// Causes 1, 2.
+#[no_mangle]
+pub extern "C" fn dzb_read_centre(bytes: &[u8], result: &mut [i32; 2]) -> u32
+    ensures { λ r. ⌜ effect r (now (result .exit)) ≡ effect-of (stepless (office.read (now (bytes .entry)))) (now (result .entry)) ⌝ }
+{
+    give(office::read(bytes), result)
+}
+
+// Causes 2, 21, 3.
+#[no_mangle]
+pub extern "C" fn dzb_write_centre(
+    lower: i32,
+    upper: i32,
+    buffer: &mut [u8],
+    length: &mut usize,
+) -> u32
+    ensures { λ r. ⌜ writing-effect r (now (length .exit)) (now (buffer .exit)) ≡ writing-effect-of (office.write (interval (pair lower upper)) (now (buffer .entry))) (now (length .entry)) ⌝ }
+{
+    let answer = office::write(Interval::new(lower, upper), buffer);
+    give_length(answer, length)
 }
