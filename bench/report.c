@@ -25,8 +25,11 @@ int main(void)
         held = 0;
         place++;
         records += block[2];
-        for (int i = 0; i < block[2]; i++)
-            total = sum(total, ends_of(block + 4 + 16 * i));
+        if (block[3])
+            total = sum(total, (pair){load_long(block + SUMS), load_long(block + SUMS + 8)});
+        else
+            for (int i = 0; i < block[2]; i++)
+                total = sum(total, ends_of(block + 4 + 16 * i));
     }
     if (cause)
         return printf("R %u %u\n", cause, place) < 0;

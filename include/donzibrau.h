@@ -41,10 +41,12 @@ typedef int32_t dzb_pair[2];
 #define DZB_LIST_STEPS 64
 #define DZB_LIST_VALUES 16
 
-/* The bytes of a block of the day file, the most records in one, the largest number of one. */
+/* The bytes of a block of the day file, the most records in one, the largest number of one; its layouts, without sums and with them. */
 #define DZB_BLOCK_BYTES 512
 #define DZB_BLOCK_RECORDS 30
 #define DZB_BLOCK_LAST 99
+#define DZB_LAYOUT_PLAIN 0
+#define DZB_LAYOUT_SUMS 1
 
 /* The most ends of a sheet of trays, four to a tray. */
 #define DZB_SHEET_ENDS 800
@@ -76,7 +78,8 @@ enum dzb_cause {
     DZB_SHEET_BOUNDS = 18,       /* a sheet has more than 800 ends, or their number is not a multiple of four */
     DZB_CONSTANT_COUNT = 19,     /* a number of constants that isn't 1 to 4 */
     DZB_NOT_IN_SERIES = 20,      /* a list that isn't in the series */
-    DZB_ODD_SUM = 21             /* the sum of the ends is odd in thousandths: no centre */
+    DZB_ODD_SUM = 21,            /* the sum of the ends is odd in thousandths: no centre */
+    DZB_BLOCK_SUMS = 22          /* a sum that a block stores differs from its records */
 };
 
 /* Of a number that dzb_list, dzb_list_within or dzb_burnin_list returned: the refusal number, and the step to which it applies, counted from 0
@@ -142,15 +145,16 @@ uint32_t dzb_line(const uint8_t *line, size_t length, dzb_pair result);
 
 /* ---- blocks of the day file
  *
- * A block is 512 bytes, numbers low byte first: its number (2 bytes), the count of records, 0, up to 30 records of 16 bytes (box, line, lower end,
- * upper end, 4 bytes each), zeros, and in the last 4 bytes the sum of all bytes before them. */
+ * A block is 512 bytes, numbers low byte first: its number (2 bytes), the count of records, its layout, up to 30 records of 16 bytes (box, line, lower
+ * end, upper end, 4 bytes each), zeros, and in the last 4 bytes the sum of all bytes before them. In layout 1 bytes 484 to 491 and 492 to 499 are the sums
+ * of the lower and of the upper ends. */
 
 /* Begins a block with no records: all 512 bytes of `block` are written. Refused, with nothing written: 13 where `number` is above 99 or `length`
- * is not 512. */
-uint32_t dzb_begin_block(uint32_t number, uint8_t *block, size_t length);
+ * is not 512, then 15 where `layout` is neither 0 nor 1. */
+uint32_t dzb_begin_block(uint32_t number, uint32_t layout, uint8_t *block, size_t length);
 
-/* Adds a record behind those of a block: its count, the record and its sum are written. Refused, with nothing written: 13 where `length` is not 512,
- * then 14, then 15 (the block's number may be any up to 99), then 13 where it holds 30 records, then 2. */
+/* Adds a record behind those of a block: its count, the record, the sums that it stores and its sum of bytes are written. Refused, with nothing written:
+ * 13 where `length` is not 512, then 14, then 15 (the block's number may be any up to 99), then 22, then 13 where it holds 30 records, then 2. */
 uint32_t dzb_add_record(uint32_t box, uint32_t line, int32_t lower, int32_t upper, uint8_t *block, size_t length);
 
 /* ---- sheets of trays */

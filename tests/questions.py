@@ -417,7 +417,10 @@ def end_beyond(block, record, end, value):
 EMPTY, SOME_RECORDS, LAST, FULL = (reference.block_of(number, records(count)) for number, count in [(0, 0), (1, 3), (99, 29), (0, 30)])
 COUNT = (7, 1, (-1000, 5))
 BEYOND = (7, 1, (GREATEST + 1, 0))
-BEGIN = [(512, number) for number in (0, 1, 99, 100, 255, 256, 65535, 65536, 2**32 - 1)] + [(length, 0) for length in (0, 1, 511, 513, 520)] + [(511, 100)]
+BEGIN = [
+    *((512, number, 0) for number in (0, 1, 99, 100, 255, 256, 65535, 65536, 2**32 - 1)), *((length, 0, 0) for length in (0, 1, 511, 513, 520)), (511, 100, 0),
+    *((512, 99, layout) for layout in (1, 2, 256, 2**32 - 1)), (512, 100, 2), (511, 0, 2),
+]
 ADD = [
     ('behind those there: the first, a fourth, the thirtieth', [(COUNT, block) for block in (EMPTY, SOME_RECORDS, LAST)]),
     ('the least and greatest numbers, each byte in its place, improper pairs', [
@@ -430,7 +433,7 @@ ADD = [
     ]),
     ('15: the number, the count, byte 3, the unused bytes, bytes 484 to 507', [
         (COUNT, damaged(block, place, *values)) for block, place, values in [
-            (LAST, 0, [100]), (LAST, 1, [1]), (LAST, 0, [255, 255]), (FULL, 2, [31]), (FULL, 2, [255]), (SOME_RECORDS, 2, [2]), (EMPTY, 3, [1]), (EMPTY, 3, [255]),
+            (LAST, 0, [100]), (LAST, 1, [1]), (LAST, 0, [255, 255]), (FULL, 2, [31]), (FULL, 2, [255]), (SOME_RECORDS, 2, [2]), (EMPTY, 3, [2]), (EMPTY, 3, [255]),
             (EMPTY, 4, [1]), (SOME_RECORDS, 52, [1]), (LAST, 468, [1]), (LAST, 483, [1]), (FULL, 484, [1]), (FULL, 507, [1]),
         ]
     ]),
@@ -442,15 +445,15 @@ ADD = [
     ('13: 30 records', [(COUNT, FULL)]),
     ('2: an end beyond the range', [((7, 1, ends), SOME_RECORDS) for ends in [(GREATEST + 1, 0), (0, GREATEST + 1), (-GREATEST - 1, 0), (0, -2**31)]]),
     ('two causes: 13 before 14, 14 before 15, 15 before 13, 13 before 2, 15 and 14 before 2', [
-        (COUNT, unsealed(SOME_RECORDS, 1)[:511]), (COUNT, unsealed(damaged(FULL, 3, 1), 1)), (COUNT, damaged(FULL, 3, 1)), (BEYOND, FULL),
-        (BEYOND, damaged(EMPTY, 3, 1)), (BEYOND, unsealed(EMPTY, 1)), (BEYOND, EMPTY[:511]),
+        (COUNT, unsealed(SOME_RECORDS, 1)[:511]), (COUNT, unsealed(damaged(FULL, 3, 2), 1)), (COUNT, damaged(FULL, 3, 2)), (BEYOND, FULL),
+        (BEYOND, damaged(EMPTY, 3, 2)), (BEYOND, unsealed(EMPTY, 1)), (BEYOND, EMPTY[:511]),
     ]),
 ]
 
 
 def blocks():
-    yield b'# Q-4: beginning a block'
-    yield from (b'begin %d %d' % question for question in BEGIN)
+    yield b'# Q-4 and Q-13: beginning a block'
+    yield from (b'begin %d %d %d' % question for question in BEGIN)
     for title, group in ADD:
         yield b'# Q-4: adding to a block; ' + title.encode()
         yield from (b'add %d %d %d %d' % (box, line, *ends) + reference.runs(block) for (box, line, ends), block in group)
@@ -531,6 +534,6 @@ LINES = [
 # The last line has no byte 10.
 SLIP = b'\n'.join(LINES) + b'\nO A [0.001,0.001] [0.000,0.000]'
 
-# ---- report: a total beyond the range, which no reader takes back
+# ---- report: a total beyond the range, which no reader takes back, over blocks of both layouts
 
-DAY = b''.join(reference.block_of(place, day) for place, day in enumerate([records(30), [], records(1), [(9, 9, (GREATEST, -GREATEST))] * 30]))
+DAY = b''.join(reference.block_of(place, day, place % 2) for place, day in enumerate([records(30), [], records(1), [(9, 9, (GREATEST, -GREATEST))] * 30]))

@@ -354,19 +354,26 @@ def output(data):
     return b''.join(b'%d %s\n' % (n, told(lambda: line_value(line), text_of)) for n, line in enumerate(lines_of(data), 1))
 
 
-# ---- document 02, Q-4: "The day file". A record is a tuple of box, line and the count's pair.
+# ---- document 02, Q-4: "The day file", and Q-13: "Day file with block sums". A record is a tuple of box, line and the count's pair; the layout is byte 3.
 
 BLOCK, BLOCKS, RECORDS = 512, 100, 30
 SUMMED = 508  # "Bytes 508 to 511 hold the sum of bytes 0 to 507."
+SUMS = 484  # "bytes 484 to 491 and 492 to 499 hold the block's sums of lower and upper ends, 64 bits signed"
 
 
 def sealed(contents):
     return contents + struct.pack('<I', sum(contents))
 
 
-def block_of(number, records):
+def sums_of(records):
+    return tuple(sum(ends[k] for _, _, ends in records) for k in (0, 1))
+
+
+def block_of(number, records, layout=0):
     """Zeros, filled in: 'A block begins as 512 zero bytes and is filled in.'"""
-    contents = struct.pack('<HBB', number, len(records), 0) + b''.join(struct.pack('<IIii', box, line, *ends) for box, line, ends in records)
+    contents = struct.pack('<HBB', number, len(records), layout) + b''.join(struct.pack('<IIii', box, line, *ends) for box, line, ends in records)
+    if layout == 1:
+        contents = contents.ljust(SUMS, b'\0') + struct.pack('<qq', *sums_of(records))
     return sealed(contents.ljust(SUMMED, b'\0'))
 
 
@@ -374,22 +381,25 @@ def block_records(block, numbers):
     """Its records, where it is accepted and its number is one of these."""
     refuse(13, len(block) != BLOCK)
     refuse(14, sum(block[:SUMMED]) != int.from_bytes(block[SUMMED:], 'little'))
-    number, count, third = struct.unpack_from('<HBB', block)
+    number, count, layout = struct.unpack_from('<HBB', block)
     records = [(box, line, (lower, upper)) for box, line, lower, upper in struct.iter_unpack('<IIii', block[4:4 + 16 * min(count, RECORDS)])]
-    refuse(15, number not in numbers or count > RECORDS or third != 0 or any(block[4 + 16 * count:SUMMED]) or any(beyond(ends) for _, _, ends in records))
+    unused = block[4 + 16 * count:SUMS] + block[SUMS + 16 * layout:SUMMED]  # "Bytes 500 to 507 stay 0."
+    refuse(15, number not in numbers or count > RECORDS or layout > 1 or any(unused) or any(beyond(ends) for _, _, ends in records))
+    refuse(22, layout == 1 and struct.unpack_from('<qq', block, SUMS) != sums_of(records))
     return records
 
 
-def begin_block(number, length):
+def begin_block(number, length, layout):
     refuse(13, number > 99 or length != BLOCK)
-    return block_of(number, [])
+    refuse(15, layout not in (0, 1))
+    return block_of(number, [], layout)
 
 
 def add_record(record, block):
     records = block_records(block, range(100))
     refuse(13, len(records) == RECORDS)
     refuse(2, beyond(record[2]))
-    return block_of(int.from_bytes(block[:2], 'little'), records + [record])
+    return block_of(int.from_bytes(block[:2], 'little'), records + [record], block[3])
 
 
 def file_records(data):
@@ -405,7 +415,7 @@ def file_records(data):
 def report(data):
     """What the report program prints."""
     def line(records):
-        return b'%d %s' % (len(records), text_of(tuple(sum(ends[k] for _, _, ends in records) for k in (0, 1))))
+        return b'%d %s' % (len(records), text_of(sums_of(records)))
     return told(lambda: file_records(data), line) + b'\n'
 
 
@@ -526,10 +536,10 @@ def stored(make, lent):
         return b'R %d' % refusal.number + runs(lent)
 
 
-def begun(length, number):
+def begun(length, number, layout):
     """Into the first `length` of some bytes, each `#` before."""
     lent = b'#' * LENT
-    return stored(lambda: begin_block(number, length) + lent[length:], lent)
+    return stored(lambda: begin_block(number, length, layout) + lent[length:], lent)
 
 
 def answer(question):

@@ -1,4 +1,4 @@
-//! Document 02's day file, read once more, and the archive and the report program compared with that reading.
+//! Document 02's day file (Q-4, and Q-13 with block sums), read once more, and the archive and the report program compared with that reading.
 
 use crate::library;
 use crate::program;
@@ -7,6 +7,7 @@ use std::collections::BTreeMap;
 
 const BYTES: usize = 512;
 const SUMMED: usize = 508;
+const SUMS: usize = 484;
 const RECORDS: usize = 30;
 const BLOCKS: usize = 100;
 const GREATEST: i64 = 2_000_000_000;
@@ -29,17 +30,27 @@ enum Mistake {
     UnusedBytesUnseen,
     FullBeforeLayout,
     RecordInFront,
+    SumsBeforeLayout,
+    UpperSumUnseen,
+    SumsTrusted,
+    SumsOfRecordsBefore,
+    OldSumsUnseen,
     PlacesFromOne,
     OneBlockMore,
     TotalHeldToRange,
 }
 
-const OF_ADDING: [Mistake; 5] = [
+const OF_ADDING: [Mistake; 10] = [
     Mistake::SumOf507Bytes,
     Mistake::LayoutBeforeSum,
     Mistake::UnusedBytesUnseen,
     Mistake::FullBeforeLayout,
     Mistake::RecordInFront,
+    Mistake::SumsBeforeLayout,
+    Mistake::UpperSumUnseen,
+    Mistake::SumsTrusted,
+    Mistake::SumsOfRecordsBefore,
+    Mistake::OldSumsUnseen,
 ];
 
 const OF_REPORTS: [Mistake; 3] = [Mistake::PlacesFromOne, Mistake::OneBlockMore, Mistake::TotalHeldToRange];
@@ -57,11 +68,25 @@ fn seal(bytes: &mut [u8]) {
     bytes[SUMMED..BYTES].copy_from_slice(&sum.to_le_bytes());
 }
 
-/// "A block begins as 512 zero bytes and is filled in."
-fn block(number: u16, records: &[Record]) -> Vec<u8> {
+/// The lower ends and the upper ends, each summed.
+fn totals(records: &[Record]) -> [i64; 2] {
+    records.iter().fold([0, 0], |[lower, upper], record| [lower + record.lower as i64, upper + record.upper as i64])
+}
+
+fn put_sums(bytes: &mut [u8], sums: [i64; 2]) {
+    bytes[SUMS..SUMS + 8].copy_from_slice(&sums[0].to_le_bytes());
+    bytes[SUMS + 8..SUMS + 16].copy_from_slice(&sums[1].to_le_bytes());
+}
+
+/// "A block begins as 512 zero bytes and is filled in." Byte 3 is the layout; where it is 1 the sums stand behind the records.
+fn block(number: u16, layout: u8, records: &[Record]) -> Vec<u8> {
     let mut bytes = vec![0; BYTES];
     bytes[0..2].copy_from_slice(&number.to_le_bytes());
     bytes[2] = records.len() as u8;
+    bytes[3] = layout;
+    if layout == 1 {
+        put_sums(&mut bytes, totals(records));
+    }
     for (k, record) in records.iter().enumerate() {
         let words = [record.case, record.line, record.lower as u32, record.upper as u32];
         for (j, word) in words.iter().enumerate() {
@@ -92,7 +117,7 @@ fn records_of(bytes: &[u8]) -> Vec<Record> {
 }
 
 impl Mistake {
-    /// The records of a block: one that is not the block of its own number and records breaks the layout.
+    /// The records of a block: one that is not the block of its own number, layout and records, but for the sums, breaks the layout.
     fn judge(self, bytes: &[u8], number: impl Fn(u16) -> bool) -> Result<Vec<Record>, u32> {
         if bytes.len() != BYTES {
             return Err(13);
@@ -100,25 +125,35 @@ impl Mistake {
         let summed = if self == Mistake::SumOf507Bytes { SUMMED - 1 } else { SUMMED };
         let sums = sum(&bytes[..summed]) == word(bytes, SUMMED);
         let records = records_of(bytes);
-        let mut made = block(number_of(bytes), &records);
+        let mut made = block(number_of(bytes), bytes[3], &records);
         if self == Mistake::UnusedBytesUnseen {
             let used = 4 + 16 * records.len();
-            made[used..].copy_from_slice(&bytes[used..]);
+            made[used..SUMS].copy_from_slice(&bytes[used..SUMS]);
         }
-        let layout = made[..SUMMED] == bytes[..SUMMED] && number(number_of(bytes)) && !records.iter().any(beyond);
+        let judged = if self == Mistake::UpperSumUnseen { SUMS..SUMS + 8 } else { SUMS..SUMS + 16 };
+        let kept = bytes[3] != 1 || self == Mistake::SumsTrusted || made[judged.clone()] == bytes[judged];
+        if bytes[3] == 1 || self == Mistake::OldSumsUnseen {
+            made[SUMS..SUMS + 16].copy_from_slice(&bytes[SUMS..SUMS + 16]);
+        }
+        let layout = bytes[3] <= 1 && made[..SUMMED] == bytes[..SUMMED] && number(number_of(bytes)) && !records.iter().any(beyond);
         match (sums, layout) {
-            (true, true) => Ok(records),
+            (true, true) if kept => Ok(records),
+            (true, true) => Err(22),
             (false, false) if self == Mistake::LayoutBeforeSum => Err(15),
+            (true, false) if self == Mistake::SumsBeforeLayout && !kept => Err(22),
             (false, _) => Err(14),
             (true, false) => Err(15),
         }
     }
 
-    fn begin(self, number: u32, length: usize) -> Result<Vec<u8>, u32> {
+    fn begin(self, number: u32, layout: u32, length: usize) -> Result<Vec<u8>, u32> {
         if number >= BLOCKS as u32 || length != BYTES {
             return Err(13);
         }
-        Ok(block(number as u16, &[]))
+        match layout {
+            0 | 1 => Ok(block(number as u16, layout as u8, &[])),
+            _ => Err(15),
+        }
     }
 
     fn add(self, record: Record, bytes: &[u8]) -> Result<Vec<u8>, u32> {
@@ -133,8 +168,14 @@ impl Mistake {
             return Err(2);
         }
         let at = if self == Mistake::RecordInFront { 0 } else { records.len() };
+        let before = totals(&records);
         records.insert(at, record);
-        Ok(block(number_of(bytes), &records))
+        let mut made = block(number_of(bytes), bytes[3], &records);
+        if self == Mistake::SumsOfRecordsBefore && bytes[3] == 1 {
+            put_sums(&mut made, before);
+            seal(&mut made);
+        }
+        Ok(made)
     }
 
     /// The number and the place of a refusal, or the records of all blocks.
@@ -156,8 +197,7 @@ impl Mistake {
         match self.records(file) {
             Err((cause, place)) => (cause, format!("R {cause} {place}\n")),
             Ok(records) => {
-                let lower: i64 = records.iter().map(|record| record.lower as i64).sum();
-                let upper: i64 = records.iter().map(|record| record.upper as i64).sum();
+                let [lower, upper] = totals(&records);
                 if self == Mistake::TotalHeldToRange && lower.abs().max(upper.abs()) > GREATEST {
                     return (4, "R 4\n".to_string());
                 }
@@ -194,7 +234,7 @@ fn sound_record(r: &mut Random) -> Record {
 fn sound_block(number: u16, r: &mut Random) -> Vec<u8> {
     let count = if r.percent(40) { r.one_of(&[0, 1, 29, 30]) } else { r.index(RECORDS + 1) };
     let records: Vec<Record> = (0..count).map(|_| sound_record(r)).collect();
-    block(number, &records)
+    block(number, r.below(2) as u8, &records)
 }
 
 /// A block with a byte, a field or its sum changed, and its sum mostly made good; sometimes some bytes less or more.
@@ -276,9 +316,10 @@ fn compare_begin(reading: Mistake, count: u64, r: &mut Random) -> Result<Causes,
     for _ in 0..count {
         let number = if r.percent(80) { r.below(120) as u32 } else { r.next() as u32 };
         let length = if r.percent(80) { BYTES } else { r.index(600) };
+        let layout = if r.percent(80) { r.below(2) as u32 } else { r.one_of(&[2, 3, 255, 256, 257, u32::MAX]) };
         let given: Vec<u8> = (0..length).map(|_| r.next() as u8).collect();
-        let cause = compare_call(&given, &reading.begin(number, length), |bytes| library::begin_block(number, bytes))
-            .map_err(|message| format!("dzb_begin_block {number}, {length} bytes: {message}"))?;
+        let cause = compare_call(&given, &reading.begin(number, layout, length), |bytes| library::begin_block(number, layout, bytes))
+            .map_err(|message| format!("dzb_begin_block {number}, {layout}, {length} bytes: {message}"))?;
         *causes.entry(cause).or_default() += 1;
     }
     Ok(causes)
@@ -301,16 +342,16 @@ fn compare_add(reading: Mistake, count: u64, r: &mut Random) -> Result<Causes, S
 /// From a begun block on, record by record: 30 of them, and a 31st refused.
 fn compare_days(count: u64, r: &mut Random) -> Result<(), String> {
     for _ in 0..count {
-        let number = r.index(BLOCKS) as u16;
+        let (number, layout) = (r.index(BLOCKS) as u16, r.below(2) as u8);
         let records: Vec<Record> = (0..RECORDS + 1).map(|_| sound_record(r)).collect();
         let mut bytes = vec![0xff; BYTES];
-        let mut returned = vec![library::begin_block(number as u32, &mut bytes)];
+        let mut returned = vec![library::begin_block(number as u32, layout as u32, &mut bytes)];
         for record in &records {
             returned.push(library::add_record(record.case, record.line, (record.lower, record.upper), &mut bytes));
         }
         let sound = returned[..RECORDS + 1].iter().all(|n| *n == 0) && returned[RECORDS + 1] == 13;
-        if !sound || bytes != block(number, &records[..RECORDS]) {
-            return Err(format!("block {number} of {records:?}: {returned:?}, left {bytes:02x?}"));
+        if !sound || bytes != block(number, layout, &records[..RECORDS]) {
+            return Err(format!("block {number} of layout {layout}, {records:?}: {returned:?}, left {bytes:02x?}"));
         }
     }
     Ok(())
@@ -350,8 +391,8 @@ fn noticed<T>(mistake: Mistake, compared: Result<T, String>) -> Result<String, S
 pub fn compare(report: Option<&str>, seed: u64) -> Result<String, String> {
     let mut r = Random::for_block(seed, u64::MAX - 1);
     let mut told = vec![
-        all_came("dzb_begin_block", &compare_begin(Mistake::None, 20_000, &mut r)?, &[0, 13])?,
-        all_came("dzb_add_record", &compare_add(Mistake::None, 1_000_000, &mut r)?, &[0, 2, 13, 14, 15])?,
+        all_came("dzb_begin_block", &compare_begin(Mistake::None, 20_000, &mut r)?, &[0, 13, 15])?,
+        all_came("dzb_add_record", &compare_add(Mistake::None, 1_000_000, &mut r)?, &[0, 2, 13, 14, 15, 22])?,
     ];
     compare_days(2_000, &mut r)?;
     told.push("2000 blocks begun and filled, a 31st record refused".to_string());
@@ -361,7 +402,7 @@ pub fn compare(report: Option<&str>, seed: u64) -> Result<String, String> {
     }
     if let Some(path) = report {
         let causes = compare_reports(path, Mistake::None, 1_000, &mut r)?;
-        told.push(all_came("the report program", &causes, &[0, 13, 14, 15])?);
+        told.push(all_came("the report program", &causes, &[0, 13, 14, 15, 22])?);
         for mistake in OF_REPORTS {
             mistakes.push(noticed(mistake, compare_reports(path, mistake, 1_000, &mut r))?);
         }

@@ -19,7 +19,7 @@ unsafe extern "C" {
     fn dzb_list(list: *const u8, length: usize, inward: bool, result: &mut [i32; 2]) -> u32;
     fn dzb_list_within(list: *const u8, length: usize, inward: bool, values: usize, steps: usize, result: &mut [i32; 2]) -> u32;
     fn dzb_line(line: *const u8, length: usize, result: &mut [i32; 2]) -> u32;
-    fn dzb_begin_block(number: u32, block: *mut u8, length: usize) -> u32;
+    fn dzb_begin_block(number: u32, layout: u32, block: *mut u8, length: usize) -> u32;
     fn dzb_burnin_list(list: *const u8, length: usize, inward: bool, values: usize, steps: usize, result: &mut [i32; 2]) -> u32;
     fn dzb_add_record(case: u32, line: u32, lower: i32, upper: i32, block: *mut u8, length: usize) -> u32;
     fn dzb_sheet(ends: *const i32, count: usize, inward: bool, result: &mut [i32; 2]) -> u32;
@@ -74,8 +74,8 @@ pub fn line(line: &[u8], result: &mut [i32; 2]) -> u32 {
     unsafe { dzb_line(line.as_ptr(), line.len(), result) }
 }
 
-pub fn begin_block(number: u32, block: &mut [u8]) -> u32 {
-    unsafe { dzb_begin_block(number, block.as_mut_ptr(), block.len()) }
+pub fn begin_block(number: u32, layout: u32, block: &mut [u8]) -> u32 {
+    unsafe { dzb_begin_block(number, layout, block.as_mut_ptr(), block.len()) }
 }
 
 /// The ends are lower, then upper.

@@ -1,30 +1,32 @@
--- "Each number comes exactly if its cause holds and no cause earlier in the order does", for a block: 13, 14, 15; for beginning: 13; for adding: the
--- block's, then 13, then 2.
-use mathlib.Core.Path.{_≡_, refl, sym, _∙_}
+-- "Each number comes exactly if its cause holds and no cause earlier in the order does", for a block: 13, 14, 15, 22; for beginning: 13, 15; for
+-- adding: the block's, then 13, then 2.
+use mathlib.Core.Path.{_≡_, refl, sym, ap₂, _∙_}
 use mathlib.Core.Bool.{Bool, true, false, not, _&&_, _||_, false≢true}
 use mathlib.Core.List.{List, [], _∷_, _++_}
 use mathlib.Core.Logic.{_↔_}
 use Prim.Native.Nat.{ℕ, _+_, _*_, _≤_, _<_}
 use native.Mathlib.Omega.{arith}
 use lib.Dec.{eqb, leb, ltb}
-use lib.ListN.{length, getD}
+use lib.ListN.{length}
 use lib.Seq.{slice}
 use borrow.Author.Tests.{leb-true, le-leb, ltb-true, ltb-false, lt-ltb, le-ltb, eqb-true, eqb-false, eq-eqb, ne-eqb}
 use Rattle.directed.specs.declared.Interval.{Interval}
 use Rattle.directed.specs.Choice.{if_then_else_, and-true}
 use Rattle.directed.specs.Answer.{Outcome, value, refusal, Judgement, sound, cause, unless, _otherwise_, given}
 use Rattle.directed.specs.Lift.{pair-of, faulty}
+use Rattle.directed.specs.Thousandths.{Pair, pair}
+use Rattle.integers.specs.Equal.{eqZ, eqZ-refl, eqZ-true}
 use Rattle.words.specs.Word.{word-at}
-use Rattle.blocks.specs.Block.{record-of, byte-sum, block, number-of, count-of, records, summed, all-zero, all-within, headed, laid-out, judgement, begun, full, addable, added}
+use Rattle.blocks.specs.Block.{record-of, sum-of, byte-sum, block, number-of, count-of, layout-of, records, stored-sums, taken-sums, summed, all-zero, all-within, headed, spare, laid-out, same, kept, judgement, begun, full, addable, added}
 
 -- ---- the layout: each field as it should be, or the first that is not
 pub record Laid-out (first last : ℕ) (b : List ℕ) : Type 0 where
   pub from : first ≤ number-of b
   pub to : number-of b ≤ last
   pub few : count-of b ≤ 30
-  pub third : getD b 3 0 ≡ 0
+  pub known : layout-of b ≤ 1
   pub unused : all-zero (slice (4 + 16 * count-of b) 484 b) ≡ true
-  pub spare : all-zero (slice 484 508 b) ≡ true
+  pub spared : all-zero (slice (spare (layout-of b)) 508 b) ≡ true
   pub within : all-within (records b) ≡ true
 
 module _ (first last : ℕ) (b : List ℕ) where
@@ -35,9 +37,9 @@ module _ (first last : ℕ) (b : List ℕ) where
         le-leb first (number-of b) (l .from),
         le-leb (number-of b) last (l .to),
         le-leb (count-of b) 30 (l .few),
-        eq-eqb (getD b 3 0) 0 (l .third),
+        le-leb (layout-of b) 1 (l .known),
         l .unused,
-        l .spare,
+        l .spared,
       ) (l .within)
 
   pub laid-out-read : laid-out first last b ≡ true → Laid-out first last b
@@ -47,27 +49,63 @@ module _ (first last : ℕ) (b : List ℕ) where
       let h = and-true (leb first (number-of b) && leb (number-of b) last) _ (p .0) in
       let n = and-true (leb first (number-of b)) _ (h .0) in
       let c = and-true (leb (count-of b) 30) _ (h .1) in
-      let z = and-true (all-zero (slice (4 + 16 * count-of b) 484 b) && all-zero (slice 484 508 b)) _ (p .1) in
+      let z = and-true (all-zero (slice (4 + 16 * count-of b) 484 b) && all-zero (slice (spare (layout-of b)) 508 b)) _ (p .1) in
       let u = and-true (all-zero (slice (4 + 16 * count-of b) 484 b)) _ (z .0) in
       record {
         from = leb-true _ _ (n .0);
         to = leb-true _ _ (n .1);
         few = leb-true _ _ (c .0);
-        third = eqb-true _ _ (c .1);
+        known = leb-true _ _ (c .1);
         unused = u .0;
-        spare = u .1;
+        spared = u .1;
         within = z .1;
       }
 
   pub laid-out-not : laid-out first last b ≡ false → Laid-out first last b → ⊥
   laid-out-not e l = false≢true (sym e ∙ laid-out-made l)
 
+-- ---- the sums, where there are any
+abbrev pub Kept : List ℕ → Type 0
+Kept b = layout-of b ≡ 1 → stored-sums b ≡ sum-of (records b)
+
+same-refl : (p : Pair) → same p p ≡ true
+unfolding same
+same-refl p = rw (eqZ-refl (p .lower)) (eqZ-refl (p .upper))
+
+same-true : (p q : Pair) → same p q ≡ true → p ≡ q
+unfolding same
+same-true p q e = let t = and-true (eqZ (p .lower) (q .lower)) _ e in ap₂ pair (eqZ-true _ _ (t .0)) (eqZ-true _ _ (t .1))
+
+module _ (b : List ℕ) where
+  pub kept-made : Kept b → kept b ≡ true
+  unfolding kept
+  kept-made k = go (eqb (layout-of b) 1) refl
+    where
+      go : (t : Bool) → eqb (layout-of b) 1 ≡ t → (if t then same (stored-sums b) (sum-of (records b)) else true) ≡ true
+      go true e = rw (k (eqb-true _ _ e)) (same-refl (sum-of (records b)))
+      go false e = refl
+
+  pub kept-read : kept b ≡ true → Kept b
+  unfolding kept
+  kept-read e l = same-true (stored-sums b) (sum-of (records b)) (rw (eq-eqb (layout-of b) 1 l) at e)
+
+  pub kept-not : kept b ≡ false → Kept b → ⊥
+  kept-not e k = false≢true (sym e ∙ kept-made k)
+
+  not-kept : (Kept b → ⊥) → kept b ≡ false
+  not-kept h = go (kept b) refl
+    where
+      go : (t : Bool) → kept b ≡ t → t ≡ false
+      go true e = absurd (h (kept-read e))
+      go false e = refl
+
 -- ---- a block: one constructor for each cause, in the order, with what makes it and the absence of those before it
 pub data Judged (first last : ℕ) (b : List ℕ) : Judgement → Type 0 where
   wrong-length : (length b ≡ 512 → ⊥) → Judged first last b (cause 13)
   wrong-sum : length b ≡ 512 → (byte-sum (slice 0 508 b) ≡ word-at b 508 → ⊥) → Judged first last b (cause 14)
   wrong-layout : length b ≡ 512 → byte-sum (slice 0 508 b) ≡ word-at b 508 → (Laid-out first last b → ⊥) → Judged first last b (cause 15)
-  no-cause : length b ≡ 512 → byte-sum (slice 0 508 b) ≡ word-at b 508 → Laid-out first last b → Judged first last b sound
+  wrong-sums : length b ≡ 512 → byte-sum (slice 0 508 b) ≡ word-at b 508 → Laid-out first last b → (Kept b → ⊥) → Judged first last b (cause 22)
+  no-cause : length b ≡ 512 → byte-sum (slice 0 508 b) ≡ word-at b 508 → Laid-out first last b → Kept b → Judged first last b sound
 
 module _ (first last : ℕ) (b : List ℕ) where
   not-laid-out : (Laid-out first last b → ⊥) → laid-out first last b ≡ false
@@ -82,53 +120,71 @@ module _ (first last : ℕ) (b : List ℕ) where
   judged-is (wrong-length n) = rw (ne-eqb (length b) 512 n)
   judged-is (wrong-sum n s) = rw (eq-eqb (length b) 512 n, ne-eqb (byte-sum (slice 0 508 b)) (word-at b 508) s)
   judged-is (wrong-layout n s l) = rw (eq-eqb (length b) 512 n, eq-eqb (byte-sum (slice 0 508 b)) (word-at b 508) s, not-laid-out l)
-  judged-is (no-cause n s l) = rw (eq-eqb (length b) 512 n, eq-eqb (byte-sum (slice 0 508 b)) (word-at b 508) s, laid-out-made first last b l)
+  judged-is (wrong-sums n s l k) =
+      rw (eq-eqb (length b) 512 n, eq-eqb (byte-sum (slice 0 508 b)) (word-at b 508) s, laid-out-made first last b l, not-kept b k)
+  judged-is (no-cause n s l k) =
+      rw (eq-eqb (length b) 512 n, eq-eqb (byte-sum (slice 0 508 b)) (word-at b 508) s, laid-out-made first last b l, kept-made b k)
 
   pub judged-holds : Judged first last b (judgement first last b)
   unfolding judgement summed
-  judged-holds = go (eqb (length b) 512) (eqb (byte-sum (slice 0 508 b)) (word-at b 508)) (laid-out first last b) refl refl refl
+  judged-holds = go (eqb (length b) 512) (eqb (byte-sum (slice 0 508 b)) (word-at b 508)) (laid-out first last b) (kept b) refl refl refl refl
     where
-      go : (n s l : Bool) → eqb (length b) 512 ≡ n → eqb (byte-sum (slice 0 508 b)) (word-at b 508) ≡ s → laid-out first last b ≡ l
-          → Judged first last b (if not n then cause 13 else (if not s then cause 14 else (if not l then cause 15 else sound)))
-      go false s l e f g = wrong-length (eqb-false _ _ e)
-      go true false l e f g = wrong-sum (eqb-true _ _ e) (eqb-false _ _ f)
-      go true true false e f g = wrong-layout (eqb-true _ _ e) (eqb-true _ _ f) (laid-out-not first last b g)
-      go true true true e f g = no-cause (eqb-true _ _ e) (eqb-true _ _ f) (laid-out-read first last b g)
+      go : (n s l k : Bool) → eqb (length b) 512 ≡ n → eqb (byte-sum (slice 0 508 b)) (word-at b 508) ≡ s → laid-out first last b ≡ l → kept b ≡ k
+          → Judged first last b (if not n then cause 13 else (if not s then cause 14 else (if not l then cause 15 else (if not k then cause 22 else sound))))
+      go false s l k e f g h = wrong-length (eqb-false _ _ e)
+      go true false l k e f g h = wrong-sum (eqb-true _ _ e) (eqb-false _ _ f)
+      go true true false k e f g h = wrong-layout (eqb-true _ _ e) (eqb-true _ _ f) (laid-out-not first last b g)
+      go true true true false e f g h = wrong-sums (eqb-true _ _ e) (eqb-true _ _ f) (laid-out-read first last b g) (kept-not b h)
+      go true true true true e f g h = no-cause (eqb-true _ _ e) (eqb-true _ _ f) (laid-out-read first last b g) (kept-read b h)
 
   pub judgement-exactly : (j : Judgement) → (judgement first last b ≡ j) ↔ Judged first last b j
   judgement-exactly j = ((λ e. rw e at judged-holds), judged-is)
 
-pub accepted-judged : {first last : ℕ} {b : List ℕ} → Judged first last b sound → (length b ≡ 512) × (byte-sum (slice 0 508 b) ≡ word-at b 508) × Laid-out first last b
-accepted-judged (no-cause n s l) = (n, s, l)
+pub accepted-judged : {first last : ℕ} {b : List ℕ} → Judged first last b sound
+    → (length b ≡ 512) × (byte-sum (slice 0 508 b) ≡ word-at b 508) × Laid-out first last b × Kept b
+accepted-judged (no-cause n s l k) = (n, s, l, k)
+
+-- "the report takes the stored sums where there are any. Its printed total still equals the records."
+pub taken-true : {first last : ℕ} {b : List ℕ} → Judged first last b sound → taken-sums b ≡ sum-of (records b)
+unfolding taken-sums
+taken-true {b = b} j = go (eqb (layout-of b) 1) refl
+  where
+    go : (t : Bool) → eqb (layout-of b) 1 ≡ t → (if t then stored-sums b else sum-of (records b)) ≡ sum-of (records b)
+    go true e = accepted-judged j .3 (eqb-true _ _ e)
+    go false e = refl
 
 -- ---- beginning
-pub data Begins (number : ℕ) (d : List ℕ) : Outcome (List ℕ) → Type 0 where
-  number-above : 99 < number → Begins number d (refusal 13)
-  other-length : number ≤ 99 → (length d ≡ 512 → ⊥) → Begins number d (refusal 13)
-  begins : number ≤ 99 → length d ≡ 512 → Begins number d (value (block number []))
+pub data Begins (number layout : ℕ) (d : List ℕ) : Outcome (List ℕ) → Type 0 where
+  number-above : 99 < number → Begins number layout d (refusal 13)
+  other-length : number ≤ 99 → (length d ≡ 512 → ⊥) → Begins number layout d (refusal 13)
+  no-layout : number ≤ 99 → length d ≡ 512 → 1 < layout → Begins number layout d (refusal 15)
+  begins : number ≤ 99 → length d ≡ 512 → layout ≤ 1 → Begins number layout d (value (block number layout []))
 
-module _ (number : ℕ) (d : List ℕ) where
-  pub begins-is : {o : Outcome (List ℕ)} → Begins number d o → begun number d ≡ o
+module _ (number layout : ℕ) (d : List ℕ) where
+  pub begins-is : {o : Outcome (List ℕ)} → Begins number layout d o → begun number layout d ≡ o
   unfolding begun
   begins-is (number-above h) = rw (lt-ltb 99 number h)
   begins-is (other-length h n) = rw (le-ltb 99 number h, ne-eqb (length d) 512 n)
-  begins-is (begins h n) = rw (le-ltb 99 number h, eq-eqb (length d) 512 n)
+  begins-is (no-layout h n l) = rw (le-ltb 99 number h, eq-eqb (length d) 512 n, lt-ltb 1 layout l)
+  begins-is (begins h n l) = rw (le-ltb 99 number h, eq-eqb (length d) 512 n, le-ltb 1 layout l)
 
-  begins-holds : Begins number d (begun number d)
+  begins-holds : Begins number layout d (begun number layout d)
   unfolding begun
-  begins-holds = go (ltb 99 number) (eqb (length d) 512) refl refl
+  begins-holds = go (ltb 99 number) (eqb (length d) 512) (ltb 1 layout) refl refl refl
     where
-      go : (a n : Bool) → ltb 99 number ≡ a → eqb (length d) 512 ≡ n → Begins number d (if a || not n then refusal 13 else value (block number []))
-      go true n e f = number-above (ltb-true _ _ e)
-      go false false e f = other-length (ltb-false _ _ e) (eqb-false _ _ f)
-      go false true e f = begins (ltb-false _ _ e) (eqb-true _ _ f)
+      go : (a n l : Bool) → ltb 99 number ≡ a → eqb (length d) 512 ≡ n → ltb 1 layout ≡ l
+          → Begins number layout d (if a || not n then refusal 13 else (if l then refusal 15 else value (block number layout [])))
+      go true n l e f g = number-above (ltb-true _ _ e)
+      go false false l e f g = other-length (ltb-false _ _ e) (eqb-false _ _ f)
+      go false true true e f g = no-layout (ltb-false _ _ e) (eqb-true _ _ f) (ltb-true _ _ g)
+      go false true false e f g = begins (ltb-false _ _ e) (eqb-true _ _ f) (ltb-false _ _ g)
 
-  pub begun-exactly : (o : Outcome (List ℕ)) → (begun number d ≡ o) ↔ Begins number d o
+  pub begun-exactly : (o : Outcome (List ℕ)) → (begun number layout d ≡ o) ↔ Begins number layout d o
   begun-exactly o = ((λ e. rw e at begins-holds), begins-is)
 
 -- ---- adding
 abbrev pub extended : ℕ → ℕ → Interval → List ℕ → List ℕ
-extended box line count b = block (number-of b) (records b ++ (record-of box line (pair-of count) ∷ []))
+extended box line count b = block (number-of b) (layout-of b) (records b ++ (record-of box line (pair-of count) ∷ []))
 
 pub data Adds (box line : ℕ) (count : Interval) (b : List ℕ) : Outcome (List ℕ) → Type 0 where
   block-refused : {n : ℕ} → Judged 0 99 b (cause n) → Adds box line count b (refusal n)

@@ -1,6 +1,6 @@
 -- Parts of a list of bytes, and zeros.
 use mathlib.Core.Path.{_≡_, refl, sym, ap, ap₂, _∙_}
-use mathlib.Core.Bool.{Bool, true, false, _&&_}
+use mathlib.Core.Bool.{true}
 use mathlib.Core.List.{List, [], _∷_, _++_, append-assoc}
 use Prim.Native.Nat.{ℕ, zero, suc, _+_, _-_, _≤_}
 use native.Mathlib.Omega.{arith}
@@ -26,15 +26,6 @@ slice-mid p m q f t e g =
     ∙ drop-at p m f e
 
 -- ---- zeros
-pub all-zero-append : (a b : List ℕ) → all-zero (a ++ b) ≡ (all-zero a && all-zero b)
-unfolding all-zero
-all-zero-append [] b = refl
-all-zero-append (x ∷ a) b = go (eqb x 0) (all-zero-append a b)
-  where
-    go : (t : Bool) → all-zero (a ++ b) ≡ (all-zero a && all-zero b) → (t && all-zero (a ++ b)) ≡ ((t && all-zero a) && all-zero b)
-    go true e = e
-    go false e = refl
-
 pub zeros-all : (n : ℕ) → all-zero (replicate n 0) ≡ true
 unfolding all-zero
 zeros-all zero = refl

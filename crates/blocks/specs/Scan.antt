@@ -1,19 +1,18 @@
 -- How the code looks through a block: bytes summed from a place on, records one behind the other, and the tests of the layout in turn.
-use mathlib.Core.Path.{_≡_, refl, ap, ap₂, _∙_}
-use mathlib.Core.Bool.{true, false, not, _&&_}
+use mathlib.Core.Path.{_≡_, refl, ap, _∙_}
+use mathlib.Core.Bool.{Bool, true, false, not, _&&_}
 use mathlib.Core.List.{List, [], _∷_}
 use Prim.Native.Nat.{ℕ, zero, suc, _+_, _-_, _*_, _≤_, _<_}
 use native.Mathlib.Numerals.{add-one}
 use native.Mathlib.Omega.{arith}
 use lib.Dec.{eqb, leb}
-use lib.IntN.{pos, +ℤ-assoc, +ℤ-idl, +ℤ-idr}
+use lib.IntN.{pos}
 use lib.ListN.{length, getD, take, drop-of-length-le, length-take}
 use lib.Seq.{slice, slice-cons}
 use borrow.Author.Tests.{leb-true, le-leb, lt-leb, eq-eqb, ne-eqb}
 use Rattle.directed.specs.Choice.{and-true}
-use Rattle.directed.specs.Thousandths.{Pair, pair, beyond-range}
-use Rattle.blocks.specs.Block.{byte-sum, number-of, count-of, record-at, records-from, records, all-zero, all-within, headed, laid-out, plus, sum-of}
-use Rattle.blocks.specs.Parts.{slice-join, all-zero-append}
+use Rattle.directed.specs.Thousandths.{pair, beyond-range}
+use Rattle.blocks.specs.Block.{plus, sum-of, byte-sum, number-of, count-of, layout-of, record-at, records-from, records, stored-sums, taken-sums, all-zero, all-within, headed, spare, laid-out, same, kept}
 
 -- ---- bytes summed, and zeros by their sum
 pub sum-next : (b : List ℕ) (i to : ℕ) → i < to → to ≤ length b → byte-sum (slice i to b) ≡ getD b i 0 + byte-sum (slice (i + 1) to b)
@@ -56,16 +55,6 @@ pub sum-of-done : (b : List ℕ) (at : ℕ) → sum-of (records-from 0 at b) ≡
 unfolding sum-of records-from
 sum-of-done b at = refl
 
--- ---- sums of pairs, end by end
-pub plus-assoc : (a b c : Pair) → plus (plus a b) c ≡ plus a (plus b c)
-plus-assoc a b c = ap₂ pair (+ℤ-assoc (a .lower) (b .lower) (c .lower)) (+ℤ-assoc (a .upper) (b .upper) (c .upper))
-
-pub plus-zero : (a : Pair) → plus a (pair (pos 0) (pos 0)) ≡ a
-plus-zero a = ap₂ pair (+ℤ-idr (a .lower)) (+ℤ-idr (a .upper))
-
-pub zero-plus : (a : Pair) → plus (pair (pos 0) (pos 0)) a ≡ a
-zero-plus a = ap₂ pair (+ℤ-idl (a .lower)) (+ℤ-idl (a .upper))
-
 -- ---- the tests of the header and of the layout, in the code's order
 module _ (first last : ℕ) (b : List ℕ) where
   pub below-first : number-of b < first → false ≡ headed first last b
@@ -80,9 +69,9 @@ module _ (first last : ℕ) (b : List ℕ) where
   unfolding headed
   too-many h k l = rw (le-leb first (number-of b) h, le-leb (number-of b) last k, lt-leb (count-of b) 30 l)
 
-  pub by-third : first ≤ number-of b → number-of b ≤ last → count-of b ≤ 30 → eqb (getD b 3 0) 0 ≡ headed first last b
+  pub by-layout : first ≤ number-of b → number-of b ≤ last → count-of b ≤ 30 → leb (layout-of b) 1 ≡ headed first last b
   unfolding headed
-  by-third h k l = rw (le-leb first (number-of b) h, le-leb (number-of b) last k, le-leb (count-of b) 30 l)
+  by-layout h k l = rw (le-leb first (number-of b) h, le-leb (number-of b) last k, le-leb (count-of b) 30 l)
 
   pub headed-few : headed first last b ≡ true → count-of b ≤ 30
   unfolding headed
@@ -94,17 +83,44 @@ module _ (first last : ℕ) (b : List ℕ) where
   unfolding laid-out
   not-headed e = rw e
 
-  -- unused record bytes and bytes 484 to 507 in one
-  rest-zero : length b ≡ 512 → count-of b ≤ 30 → eqb (byte-sum (slice (4 + 16 * count-of b) 508 b)) 0 ≡ (all-zero (slice (4 + 16 * count-of b) 484 b) && all-zero (slice 484 508 b))
-  rest-zero n h =
-      zero-sum (slice (4 + 16 * count-of b) 508 b)
-      ∙ ap all-zero (slice-join (4 + 16 * count-of b) 484 508 b (omega arith) (omega arith) (omega arith) refl refl)
-      ∙ all-zero-append (slice (4 + 16 * count-of b) 484 b) (slice 484 508 b)
-
-  pub not-zero : length b ≡ 512 → headed first last b ≡ true → (byte-sum (slice (4 + 16 * count-of b) 508 b) ≡ 0 → ⊥) → false ≡ laid-out first last b
-  unfolding laid-out
-  not-zero n e z = rw (e, ← rest-zero n (headed-few e), ne-eqb (byte-sum (slice (4 + 16 * count-of b) 508 b)) 0 z)
-
-  pub by-within : length b ≡ 512 → headed first last b ≡ true → byte-sum (slice (4 + 16 * count-of b) 508 b) ≡ 0 → all-within (records-from (count-of b) 4 b) ≡ laid-out first last b
+  -- the ends first: that the records are few is known there
+  pub not-within : headed first last b ≡ true → all-within (records-from (count-of b) 4 b) ≡ false → false ≡ laid-out first last b
   unfolding laid-out records
-  by-within n e z = rw (e, ← rest-zero n (headed-few e), eq-eqb (byte-sum (slice (4 + 16 * count-of b) 508 b)) 0 z)
+  not-within e w = rw (e, w) (go (all-zero (slice (4 + 16 * count-of b) 484 b) && all-zero (slice (spare (layout-of b)) 508 b)))
+    where
+      go : (t : Bool) → false ≡ (t && false)
+      go true = refl
+      go false = refl
+
+  pub not-unused : headed first last b ≡ true → (byte-sum (slice (4 + 16 * count-of b) 484 b) ≡ 0 → ⊥) → false ≡ laid-out first last b
+  unfolding laid-out
+  not-unused e z = rw (e, ← zero-sum (slice (4 + 16 * count-of b) 484 b), ne-eqb (byte-sum (slice (4 + 16 * count-of b) 484 b)) 0 z)
+
+  pub by-spared : headed first last b ≡ true → all-within (records-from (count-of b) 4 b) ≡ true → byte-sum (slice (4 + 16 * count-of b) 484 b) ≡ 0
+      → eqb (byte-sum (slice (spare (layout-of b)) 508 b)) 0 ≡ laid-out first last b
+  unfolding laid-out records
+  by-spared e w z =
+      zero-sum (slice (spare (layout-of b)) 508 b)
+      ∙ rw (e, w, ← zero-sum (slice (4 + 16 * count-of b) 484 b), eq-eqb (byte-sum (slice (4 + 16 * count-of b) 484 b)) 0 z) (go (all-zero (slice (spare (layout-of b)) 508 b)))
+    where
+      go : (t : Bool) → t ≡ (t && true)
+      go true = refl
+      go false = refl
+
+-- ---- the sums, in the code's order
+module _ (b : List ℕ) where
+  pub none-kept : (layout-of b ≡ 1 → ⊥) → true ≡ kept b
+  unfolding kept
+  none-kept h = rw (ne-eqb (layout-of b) 1 h)
+
+  pub some-kept : layout-of b ≡ 1 → same (stored-sums b) (sum-of (records-from (count-of b) 4 b)) ≡ kept b
+  unfolding kept records
+  some-kept e = rw (eq-eqb (layout-of b) 1 e)
+
+  pub stored-taken : layout-of b ≡ 1 → stored-sums b ≡ taken-sums b
+  unfolding taken-sums
+  stored-taken e = rw (eq-eqb (layout-of b) 1 e)
+
+  pub summed-taken : (layout-of b ≡ 1 → ⊥) → sum-of (records-from (count-of b) 4 b) ≡ taken-sums b
+  unfolding taken-sums records
+  summed-taken h = rw (ne-eqb (layout-of b) 1 h)

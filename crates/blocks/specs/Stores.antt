@@ -1,17 +1,23 @@
 -- What the code stores is the block: from zeros, and a record behind those of a block.
 use mathlib.Core.Path.{_≡_, refl, sym, ap, ap₂, _∙_}
+use mathlib.Core.Bool.{Bool, true, false}
 use mathlib.Core.List.{List, [], _∷_, _++_, append-assoc, append-nil}
 use Prim.Native.Nat.{ℕ, suc, _+_, _-_, _*_, _/_, _%_, _≤_, _<_}
 use native.Mathlib.Omega.{arith}
-use lib.ListN.{length, replicate, drop, set, length-append, replicate-append-replicate}
+use lib.Dec.{eqb}
+use lib.ListN.{length, replicate, drop, set, length-append, length-replicate, replicate-append-replicate}
 use lib.Seq.{slice, take-at, drop-at}
+use borrow.Author.Tests.{eqb-true, eq-eqb, ne-eqb}
 use Rattle.decimal.specs.Place.{put}
 use Rattle.directed.specs.Answer.{sound}
+use Rattle.directed.specs.Choice.{if_then_else_}
+use Rattle.directed.specs.Thousandths.{Pair}
 use Rattle.words.specs.Word.{word-bytes}
 use Rattle.words.specs.WordLaws.{Bytes}
-use Rattle.blocks.specs.Block.{Record, record-bytes, records-bytes, header, contents, byte-sum, block, number-of, count-of, records}
-use Rattle.blocks.specs.BlockLaws.{record-length, records-length, count-is, contents-length}
-use Rattle.blocks.specs.Causes.{Judged}
+use Rattle.blocks.specs.Block.{Record, record-bytes, records-bytes, plus, header, sums-bytes, sums, contents, byte-sum, block, number-of, count-of, layout-of, records, stored-sums, all-within}
+use Rattle.blocks.specs.BlockLaws.{record-length, records-length, count-is, sums-carried, sums-length, sums-none, sums-other, carried-sum, carried-bounded, contents-length, block-layout, block-stored}
+use Rattle.blocks.specs.SumLaws.{Bounded, sum-snoc}
+use Rattle.blocks.specs.Causes.{Judged, accepted-judged}
 use Rattle.blocks.specs.Accepted.{accepted-block}
 
 -- the sum of bytes 0 to 507, put behind them
@@ -25,21 +31,36 @@ put-over p old t q at e f =
     ap₂ (λ x y. x ++ (t ++ y)) (take-at p (old ++ q) at e)
     (ap (drop (at + length t)) (sym (append-assoc p old q)) ∙ drop-at (p ++ old) q (at + length t) (omega (arith, length-append p old)))
 
-sealed-block : (number : ℕ) (rs : List Record) (old : List ℕ) → length rs ≤ 30 → length old ≡ 4 → sealed (contents number rs ++ old) ≡ block number rs
+sealed-block : (number layout : ℕ) (rs : List Record) (old : List ℕ) → length rs ≤ 30 → length old ≡ 4 → sealed (contents number layout rs ++ old) ≡ block number layout rs
 unfolding sealed block
-sealed-block number rs old few e =
-    let C = contents number rs in
-    let n = contents-length number rs few in
+sealed-block number layout rs old few e =
+    let C = contents number layout rs in
+    let n = contents-length number layout rs few in
     ap (λ l. put (word-bytes (byte-sum l)) 508 (C ++ old)) (take-at C old 508 n)
     ∙ ap (λ l. put (word-bytes (byte-sum C)) 508 (C ++ l)) (sym (append-nil old))
     ∙ put-over C old (word-bytes (byte-sum C)) [] 508 n e
 
--- "A block begins as 512 zero bytes and is filled in."
-pub from-zeros : (number : ℕ) → sealed (set (set (replicate 512 0) 0 (number % 256)) 1 (number / 256)) ≡ block number []
+empty : (number layout : ℕ) → contents number layout [] ≡ header number 0 layout ++ replicate 504 0
 unfolding contents records-bytes
-from-zeros number = sealed-block number [] (replicate 4 0) (omega arith) refl
+empty number layout = ap (λ l. header number 0 layout ++ (replicate 480 0 ++ (l ++ replicate 8 0))) (sums-none layout)
 
--- ---- a record behind those there: the count, the record, the sum
+-- "A block begins as 512 zero bytes and is filled in."
+pub from-zeros : (number layout : ℕ) → sealed (set (set (set (replicate 512 0) 0 (number % 256)) 1 (number / 256)) 3 layout) ≡ block number layout []
+from-zeros number layout = ap (λ l. sealed (l ++ replicate 4 0)) (sym (empty number layout)) ∙ sealed-block number layout [] (replicate 4 0) (omega arith) refl
+
+-- ---- a record behind those there: the sums, the count, the record, the sum of bytes
+-- the sums with a pair more, where there are any
+unfoldable pub raised : Pair → List ℕ → List ℕ
+raised p b = if eqb (layout-of b) 1 then put (sums-bytes (plus (stored-sums b) p)) 484 b else b
+
+pub raised-some : (p : Pair) (b : List ℕ) → layout-of b ≡ 1 → put (sums-bytes (plus (stored-sums b) p)) 484 b ≡ raised p b
+unfolding raised
+raised-some p b e = rw (eq-eqb (layout-of b) 1 e)
+
+pub raised-none : (p : Pair) (b : List ℕ) → (layout-of b ≡ 1 → ⊥) → b ≡ raised p b
+unfolding raised
+raised-none p b h = rw (ne-eqb (layout-of b) 1 h)
+
 records-snoc : (rs : List Record) (r : Record) → records-bytes rs ++ record-bytes r ≡ records-bytes (rs ++ (r ∷ []))
 unfolding records-bytes
 records-snoc [] r = sym (append-nil (record-bytes r))
@@ -48,8 +69,46 @@ records-snoc (x ∷ rs) r = append-assoc (record-bytes x) (records-bytes rs) (re
 zeros : ℕ → List ℕ
 zeros k = replicate k 0
 
-module _ (number : ℕ) (rs : List Record) (r : Record) (few : length rs < 30) where
-  more : length (rs ++ (r ∷ [])) ≡ suc (length rs)
+module _ (number layout : ℕ) (rs : List Record) (r : Record) (few : length rs < 30) (within : all-within rs ≡ true) where
+  abbrev new : List Record
+  new = rs ++ (r ∷ [])
+
+  -- bytes 0 to 483
+  early : List ℕ
+  early = header number (length rs) layout ++ (records-bytes rs ++ zeros (480 - 16 * length rs))
+
+  early-length : length early ≡ 484
+  unfolding early zeros
+  early-length = simp (length-append, length-replicate) (omega (arith, records-length rs))
+
+  -- the sum of bytes, as it is
+  sealing : List ℕ
+  sealing = word-bytes (byte-sum (contents number layout rs))
+
+  late : block number layout rs ≡ early ++ (sums layout rs ++ (zeros 8 ++ sealing))
+  unfolding block contents early zeros sealing
+  late = simp append-assoc
+
+  -- the sums of one record more
+  summed-up : raised (r .ends) (block number layout rs) ≡ early ++ (sums layout new ++ (zeros 8 ++ sealing))
+  unfolding raised
+  summed-up = rw (block-layout number layout rs) (go (eqb layout 1) refl)
+    where
+      p : Pair
+      p = plus (stored-sums (block number layout rs)) (r .ends)
+
+      sum-is : layout ≡ 1 → sums-bytes p ≡ sums layout new
+      sum-is e =
+          ap (λ q. sums-bytes (plus q (r .ends))) (block-stored number layout rs (omega arith) within ∙ carried-sum layout rs e)
+          ∙ ap (λ (q : Pair). sums-bytes q) (sym (sum-snoc rs r) ∙ sym (carried-sum layout new e)) ∙ sym (sums-carried layout new)
+
+      go : (t : Bool) → eqb layout 1 ≡ t → (if t then put (sums-bytes p) 484 (block number layout rs) else block number layout rs) ≡ early ++ (sums layout new ++ (zeros 8 ++ sealing))
+      go true e =
+          ap (put (sums-bytes p) 484) late ∙ put-over early (sums layout rs) (sums-bytes p) (zeros 8 ++ sealing) 484 early-length (sums-length layout rs)
+          ∙ ap (λ l. early ++ (l ++ (zeros 8 ++ sealing))) (sum-is (eqb-true _ _ e))
+      go false e = late ∙ ap (λ l. early ++ (l ++ (zeros 8 ++ sealing))) (sums-other layout rs e ∙ sym (sums-other layout new e))
+
+  more : length new ≡ suc (length rs)
   more = omega (arith, length-append rs (r ∷ []))
 
   -- 16 of the unused bytes are the next record's
@@ -60,30 +119,37 @@ module _ (number : ℕ) (rs : List Record) (r : Record) (few : length rs < 30) w
       ∙ sym (replicate-append-replicate 16 (480 - 16 * suc (length rs)) 0)
 
   -- the block with the new count, where the record goes
-  counted : (S : List ℕ) → set (contents number rs ++ S) 2 (suc (length rs))
-      ≡ (header number (suc (length rs)) ++ records-bytes rs) ++ (zeros 16 ++ (zeros (480 - 16 * suc (length rs)) ++ (zeros 24 ++ S)))
-  unfolding contents zeros
-  counted S = ap (λ l. header number (suc (length rs)) ++ ((records-bytes rs ++ (l ++ zeros 24)) ++ S)) unused ∙ simp append-assoc
+  counted : (T : List ℕ) → set (early ++ T) 2 (suc (length rs))
+      ≡ (header number (suc (length rs)) layout ++ records-bytes rs) ++ (zeros 16 ++ (zeros (480 - 16 * suc (length rs)) ++ T))
+  unfolding early
+  counted T = ap (λ l. header number (suc (length rs)) layout ++ ((records-bytes rs ++ l) ++ T)) unused ∙ simp append-assoc
 
   -- with the record there
-  placed : (S : List ℕ) → (header number (suc (length rs)) ++ records-bytes rs) ++ (record-bytes r ++ (zeros (480 - 16 * suc (length rs)) ++ (zeros 24 ++ S)))
-      ≡ contents number (rs ++ (r ∷ [])) ++ S
+  placed : (S : List ℕ)
+      → (header number (suc (length rs)) layout ++ records-bytes rs) ++ (record-bytes r ++ (zeros (480 - 16 * suc (length rs)) ++ (sums layout new ++ (zeros 8 ++ S))))
+      ≡ contents number layout new ++ S
   unfolding contents zeros
   placed S = rw (more, ← records-snoc rs r) (simp append-assoc)
 
-  pub appended : sealed (put (record-bytes r) (4 + 16 * length rs) (set (block number rs) 2 (suc (length rs)))) ≡ block number (rs ++ (r ∷ []))
-  unfolding block zeros
+  pub appended : sealed (put (record-bytes r) (4 + 16 * length rs) (set (raised (r .ends) (block number layout rs)) 2 (suc (length rs)))) ≡ block number layout new
+  unfolding zeros sealing
   appended =
-      let S = word-bytes (byte-sum (contents number rs)) in
-      ap (λ l. sealed (put (record-bytes r) (4 + 16 * length rs) l)) (counted S)
-      ∙ ap sealed (put-over (header number (suc (length rs)) ++ records-bytes rs) (zeros 16) (record-bytes r) _ (4 + 16 * length rs) (omega (arith, records-length rs)) (sym (record-length r)) ∙ placed S)
-      ∙ sealed-block number (rs ++ (r ∷ [])) S (omega (arith, more)) refl
+      ap (λ l. sealed (put (record-bytes r) (4 + 16 * length rs) (set l 2 (suc (length rs))))) summed-up
+      ∙ ap (λ l. sealed (put (record-bytes r) (4 + 16 * length rs) l)) (counted (sums layout new ++ (zeros 8 ++ sealing)))
+      ∙ ap sealed (put-over (header number (suc (length rs)) layout ++ records-bytes rs) (zeros 16) (record-bytes r) _ (4 + 16 * length rs) (omega (arith, records-length rs)) (sym (record-length r)) ∙ placed sealing)
+      ∙ sealed-block number layout new sealing (omega (arith, more)) refl
 
--- the same of any bytes that are accepted
+-- the same of any bytes that are accepted; what stands where sums are stored is small
+pub accepted-stored : {first last : ℕ} (b : List ℕ) → Bytes b → Judged first last b sound → Bounded (length (records b)) (stored-sums b)
+accepted-stored b small j =
+    let l = accepted-judged j .2 in
+    rw (ap (λ (d : List ℕ). stored-sums d) (accepted-block b small j) ∙ block-stored (number-of b) (layout-of b) (records b) (omega (arith, count-is b, l .few)) (l .within))
+    (carried-bounded (layout-of b) (records b) (l .within))
+
 pub accepted-appended : {first last : ℕ} (b : List ℕ) (r : Record) → Bytes b → Judged first last b sound → count-of b < 30
-    → sealed (put (record-bytes r) (4 + 16 * count-of b) (set b 2 (count-of b + 1))) ≡ block (number-of b) (records b ++ (r ∷ []))
+    → sealed (put (record-bytes r) (4 + 16 * count-of b) (set (raised (r .ends) b) 2 (count-of b + 1))) ≡ block (number-of b) (layout-of b) (records b ++ (r ∷ []))
 accepted-appended b r small j h =
     let n = length (records b) in
-    ap₂ (λ (i k : ℕ). sealed (put (record-bytes r) (4 + 16 * i) (set b 2 k))) (sym (count-is b)) (let e : count-of b + 1 ≡ suc n = omega (arith, count-is b) in e)
-    ∙ ap (λ l. sealed (put (record-bytes r) (4 + 16 * n) (set l 2 (suc n)))) (accepted-block b small j)
-    ∙ appended (number-of b) (records b) r (omega (arith, count-is b))
+    ap₂ (λ (i k : ℕ). sealed (put (record-bytes r) (4 + 16 * i) (set (raised (r .ends) b) 2 k))) (sym (count-is b)) (let e : count-of b + 1 ≡ suc n = omega (arith, count-is b) in e)
+    ∙ ap (λ l. sealed (put (record-bytes r) (4 + 16 * n) (set (raised (r .ends) l) 2 (suc n)))) (accepted-block b small j)
+    ∙ appended (number-of b) (layout-of b) (records b) r (omega (arith, count-is b)) (accepted-judged j .2 .within)

@@ -7,7 +7,8 @@ ghost use lib.IntN.{natAbs, _+ℤ_};
 ghost use lib.ListN.{length};
 ghost use lib.Seq.{slice};
 ghost use Rattle.directed.specs.Lift.{interval, pair-of};
-ghost use Rattle.blocks.specs.Block.{byte-sum, number-of, record-at, records-from, all-within, headed, laid-out, plus, sum-of};
+ghost use Rattle.integers.specs.Equal.{eqZ};
+ghost use Rattle.blocks.specs.Block.{byte-sum, number-of, record-at, records-from, all-within, headed, spare, laid-out, plus, sum-of, stored-sums, same, kept};
 ghost use Rattle.blocks.specs.Sums.{total};
 
 fn wide(x: u8) -> u32
@@ -51,7 +52,7 @@ fn is_headed(first: u32, last: u32, block: &[u8]) -> bool
     if 30 < block[2] {
         return false;
     }
-    block[3] == 0
+    block[3] <= 1
 }
 
 // The ends of the record at a place.
@@ -82,6 +83,13 @@ fn are_within(n: u8, block: &[u8]) -> bool
     true
 }
 
+// From where up to byte 507 all is 0.
+fn spare_from(layout: u8) -> usize
+    ensures { λ r. ⌜ (r ≡ spare layout) × (r ≤ 500) ⌝ }
+{
+    if layout == 1 { 500 } else { 484 }
+}
+
 pub fn is_laid_out(first: u32, last: u32, block: &[u8]) -> bool
     requires { ⌜ length (now block) ≡ 512 ⌝ }
     ensures { λ r. ⌜ r ≡ laid-out first last (now (block .entry)) ⌝ }
@@ -90,10 +98,13 @@ pub fn is_laid_out(first: u32, last: u32, block: &[u8]) -> bool
         return false;
     }
     let n = block[2];
-    if byte_sum(block, 4 + 16 * (n as usize), 508) != 0 {
+    if !are_within(n, block) {
         return false;
     }
-    are_within(n, block)
+    if byte_sum(block, 4 + 16 * (n as usize), 484) != 0 {
+        return false;
+    }
+    byte_sum(block, spare_from(block[3]), 508) == 0
 }
 
 fn grown(sum: i64, e: i32) -> i64
@@ -103,7 +114,7 @@ fn grown(sum: i64, e: i32) -> i64
     sum + e as i64
 }
 
-fn with_ends(sums: Sums, ends: Interval) -> Sums
+pub fn with_ends(sums: Sums, ends: Interval) -> Sums
     requires { ⌜ (natAbs (sums .lower) ≤ 1000000000000) × (natAbs (sums .upper) ≤ 1000000000000) ⌝ }
     ensures { λ r. ⌜ total r ≡ plus (total sums) (pair-of ends) ⌝ }
     ensures { λ r. ⌜ (natAbs (r .lower) ≤ natAbs (sums .lower) + 2147483648) × (natAbs (r .upper) ≤ natAbs (sums .upper) + 2147483648) ⌝ }
@@ -127,4 +138,40 @@ pub fn sum_records(n: u8, block: &[u8]) -> Sums
         left -= 1;
     }
     sums
+}
+
+// The sums that a block of layout 1 stores.
+pub fn stored_sums(block: &[u8]) -> Sums
+    ensures { λ r. ⌜ total r ≡ stored-sums (now (block .entry)) ⌝ }
+{
+    Sums {
+        lower: words::read_i64(block, 484),
+        upper: words::read_i64(block, 492),
+    }
+}
+
+fn is_equal(x: i64, y: i64) -> bool
+    ensures { λ r. ⌜ r ≡ eqZ x y ⌝ }
+{
+    x == y
+}
+
+fn are_same(a: Sums, b: Sums) -> bool
+    ensures { λ r. ⌜ r ≡ same (total a) (total b) ⌝ }
+{
+    if !is_equal(a.lower, b.lower) {
+        return false;
+    }
+    is_equal(a.upper, b.upper)
+}
+
+// Whether the sums that are stored, where there are any, are those of the records.
+pub fn are_sums_kept(block: &[u8]) -> bool
+    requires { ⌜ length (now block) ≡ 512 ⌝ }
+    ensures { λ r. ⌜ r ≡ kept (now (block .entry)) ⌝ }
+{
+    if block[3] != 1 {
+        return true;
+    }
+    are_same(stored_sums(block), sum_records(block[2], block))
 }

@@ -1,8 +1,8 @@
-// Blocks of the day file: 512 bytes that hold up to 30 records. Judging a block, the sum of its records, beginning one in lent bytes and adding a
-// record to it.
+// Blocks of the day file: 512 bytes that hold up to 30 records, and in layout 1 their sums. Judging a block, its sums, beginning one in lent bytes and
+// adding a record to it.
 ghost use mathlib.Core.Path.{_≡_};
 ghost use Rattle.directed.specs.Answer.{verdict-of};
-ghost use Rattle.blocks.specs.Block.{count-of, records, judgement, begun, addable, added, stored, storing, sum-of};
+ghost use Rattle.blocks.specs.Block.{count-of, taken-sums, judgement, begun, addable, added, stored, storing};
 ghost use Rattle.blocks.specs.Sums.{total};
 use directed::Cause;
 use directed::Interval;
@@ -17,7 +17,7 @@ pub struct Sums {
     pub upper: i64,
 }
 
-// Judges a block whose number may be from first to last: 13, 14, 15.
+// Judges a block whose number may be from first to last: 13, 14, 15, 22.
 pub fn judge(first: u32, last: u32, block: &[u8]) -> Verdict
     ensures { λ r. ⌜ verdict-of r ≡ judgement first last (now (block .entry)) ⌝ }
 {
@@ -30,6 +30,9 @@ pub fn judge(first: u32, last: u32, block: &[u8]) -> Verdict
     if !layout::is_laid_out(first, last, block) {
         return Verdict::Refused(Cause::BlockLayout);
     }
+    if !layout::are_sums_kept(block) {
+        return Verdict::Refused(Cause::BlockSums);
+    }
     Verdict::Sound
 }
 
@@ -37,19 +40,22 @@ pub fn judge(first: u32, last: u32, block: &[u8]) -> Verdict
 pub fn count_of(block: &[u8]) -> u8
     ensures { λ r. ⌜ r ≡ count-of (now (block .entry)) ⌝ }
 {
-    if 2 < block.len() { block[2] } else { 0 }
+    words::byte_at(block, 2)
 }
 
-// The directed sum of a block's records.
+// The sums of a block: those that it stores, where it stores any, and else those of its records.
 pub fn sums_of(block: &[u8]) -> Sums
-    ensures { λ r. ⌜ total r ≡ sum-of (records (now (block .entry))) ⌝ }
+    ensures { λ r. ⌜ total r ≡ taken-sums (now (block .entry)) ⌝ }
 {
+    if words::byte_at(block, 3) == 1 {
+        return layout::stored_sums(block);
+    }
     layout::sum_records(count_of(block), block)
 }
 
-// Begins a block in the lent bytes: 13.
-pub fn begin(number: u32, block: &mut [u8]) -> Verdict
-    ensures { λ r. ⌜ stored (verdict-of r) (now (block .exit)) ≡ storing (begun number (now (block .entry))) (now (block .entry)) ⌝ }
+// Begins a block in the lent bytes, of the layout that its byte 3 is to tell: 13, 15.
+pub fn begin(number: u32, layout: u32, block: &mut [u8]) -> Verdict
+    ensures { λ r. ⌜ stored (verdict-of r) (now (block .exit)) ≡ storing (begun number layout (now (block .entry))) (now (block .entry)) ⌝ }
 {
     if 99 < number {
         return Verdict::Refused(Cause::BlockBounds);
@@ -57,7 +63,10 @@ pub fn begin(number: u32, block: &mut [u8]) -> Verdict
     if block.len() != 512 {
         return Verdict::Refused(Cause::BlockBounds);
     }
-    let empty = store::empty_block(number);
+    if 1 < layout {
+        return Verdict::Refused(Cause::BlockLayout);
+    }
+    let empty = store::empty_block(number, layout);
     decimal::put_bytes(&empty, 0, block);
     Verdict::Sound
 }

@@ -280,16 +280,16 @@ fn give_verdict(verdict: Verdict) -> u32
     }
 }
 
-// Cause 13.
+// Causes 13, 15.
 #[no_mangle]
-pub extern "C" fn dzb_begin_block(number: u32, block: &mut [u8]) -> u32
-    ensures { λ r. ⌜ block-effect r (now (block .exit)) ≡ block-effect-of (storing (begun number (now (block .entry))) (now (block .entry))) ⌝ }
+pub extern "C" fn dzb_begin_block(number: u32, layout: u32, block: &mut [u8]) -> u32
+    ensures { λ r. ⌜ block-effect r (now (block .exit)) ≡ block-effect-of (storing (begun number layout (now (block .entry))) (now (block .entry))) ⌝ }
 {
-    let verdict = blocks::begin(number, block);
+    let verdict = blocks::begin(number, layout, block);
     give_verdict(verdict)
 }
 
-// Causes 13, 14, 15, then 13, then 2.
+// Causes 13, 14, 15, 22, then 13, then 2.
 #[no_mangle]
 pub extern "C" fn dzb_add_record(
     box_number: u32,

@@ -15,10 +15,11 @@ use Rattle.blocks.specs.Block.{Record, records, sum-of}
 use Rattle.blocks.specs.BlockLaws.{count-is, block-length}
 use Rattle.blocks.specs.Causes.{accepted-judged, judged-holds}
 use Rattle.blocks.specs.Made.{Made, made-block}
+use Rattle.blocks.specs.SumLaws.{sum-append, Bounded, plus-bounded, sum-bounded}
 use Rattle.day.specs.File.{blocks-of, judgement-at, accepted-at, all-records, Total, total-of, report}
 use Rattle.day.specs.FileLaws.{Cut, blocks-exactly, Whole, whole-cut}
 use Rattle.day.specs.Tally.{most-records, most-sum}
-use Rattle.day.specs.TallyLaws.{sum-append, Bounded, plus-bounded, sum-bounded, At, in-place, at-is, at-holds}
+use Rattle.day.specs.TallyLaws.{At, in-place, at-is, at-holds}
 
 -- blocks that are accepted in turn, the first at this place, with their records
 pub data Accepted : ℕ → List (List ℕ) → List Record → Type 0 where
@@ -109,10 +110,10 @@ total-most s t e = go (reported-holds s) e
         subst (λ x. Most x) g (omega (arith, w .0), omega (arith, w .0, w .1 .low), omega (arith, w .0, w .1 .high))
     go (one-refused c a) e = absurd (value-refusal (sym e))
 
--- ---- a file of blocks that calls made, each with its place as its number
+-- ---- a file of blocks that calls made, each with its place as its number, and a layout of its own
 pub data Filed : ℕ → List (List ℕ) → List Record → Type 0 where
   none : {place : ℕ} → Filed place [] []
-  next : {place : ℕ} {b : List ℕ} {bs : List (List ℕ)} {rs more : List Record} → Made place rs b → Filed (suc place) bs more → Filed place (b ∷ bs) (rs ++ more)
+  next : {place : ℕ} {b : List ℕ} {bs : List (List ℕ)} {rs more : List Record} {layout : ℕ} → Made place layout rs b → Filed (suc place) bs more → Filed place (b ∷ bs) (rs ++ more)
 
 filed-accepted : {place : ℕ} {bs : List (List ℕ)} {rs : List Record} → Filed place bs rs → place + length bs ≤ 100 → Accepted place bs rs
 filed-accepted none h = none
@@ -123,9 +124,9 @@ filed-accepted (next {place} {b} m f) h =
 
 filed-whole : {place : ℕ} {bs : List (List ℕ)} {rs : List Record} → Filed place bs rs → Whole bs
 filed-whole none = Whole.none
-filed-whole (next {place} {b} {rs = rs} m f) = let i = made-block m in Whole.one (ap length (i .is) ∙ block-length place rs (i .few)) (filed-whole f)
+filed-whole (next {place} {b} {rs = rs} {layout = layout} m f) = let i = made-block m in Whole.one (ap length (i .is) ∙ block-length place layout rs (i .few)) (filed-whole f)
 
--- "The sum printed equals the sum over the records"
+-- "The sum printed equals the sum over the records", in a file that mixes both layouts
 pub filed-report : {bs : List (List ℕ)} {rs : List Record} → Filed 0 bs rs → length bs ≤ 100 → report (flatten bs) ≡ value (total-of rs)
 filed-report {bs} {rs} f h =
     reported-is (all-accepted {bs = bs} (rw (append-nil (flatten bs), append-nil bs) at (whole-cut (filed-whole f) Cut.none)) (filed-accepted f (omega arith)))

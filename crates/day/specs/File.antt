@@ -22,7 +22,7 @@ cut (suc n) (b ∷ s) = take 512 (b ∷ s) ∷ cut n (drop 512 (b ∷ s))
 unfoldable pub blocks-of : List ℕ → List (List ℕ)
 blocks-of s = cut (length s) s
 
--- ---- "per block in turn, 13 if it is short or is the 101st, 14 if the sum of bytes differs, 15 if the block's number isn't its place, .."
+-- ---- "per block in turn, 13 if it is short or is the 101st, 14 if the sum of bytes differs, 15 if the block's number isn't its place, ..", "22 after 15"
 unfoldable pub judgement-at : ℕ → List ℕ → Judgement
 judgement-at place b = if ltb place 100 then judgement place place b else cause 13
 

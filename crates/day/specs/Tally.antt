@@ -9,7 +9,7 @@ use Rattle.directed.specs.Choice.{if_then_else_}
 use Rattle.directed.specs.Thousandths.{Pair, pair}
 use Rattle.directed.specs.Answer.{number}
 use Rattle.directed.specs.Result.{Result, value, refusal, at, after}
-use Rattle.blocks.specs.Block.{plus, sum-of}
+use Rattle.blocks.specs.Block.{taken-sums, plus}
 use Rattle.blocks.specs.Sums.{total}
 use Rattle.day.specs.declared.Tally.{Tally}
 use Rattle.day.specs.declared.Tally.the-variants.{Counted, Refused}
@@ -42,11 +42,11 @@ most-sum = 6000000000000
 unfoldable pub possible : Count → Bool
 possible c = leb (c .records) most-records && (leb (natAbs (c .sum .lower)) most-sum && leb (natAbs (c .sum .upper)) most-sum)
 
--- one block more. A count that no file has stays as it is: the sums of all others fit 64 bits
+-- one block more: "the report takes the stored sums where there are any". A count that no file has stays as it is: the sums of all others fit 64 bits
 unfoldable pub counted : Count → List ℕ → Result Count
 counted c b =
     if possible c
-    then (after (at (c .blocks) (accepted-at (c .blocks) b)) λ rs. value (count (suc (c .blocks)) (c .records + length rs) (plus (c .sum) (sum-of rs))))
+    then (after (at (c .blocks) (accepted-at (c .blocks) b)) λ rs. value (count (suc (c .blocks)) (c .records + length rs) (plus (c .sum) (taken-sums b))))
     else value c
 
 unfoldable pub step : Result Count → List ℕ → Result Count

@@ -1,6 +1,6 @@
 -- The tally of some blocks tells the report over them.
 use mathlib.Core.Path.{_≡_, refl, sym, ap, ap₂, _∙_}
-use mathlib.Core.Bool.{Bool, true, false, not}
+use mathlib.Core.Bool.{Bool, true, false}
 use mathlib.Core.List.{List, [], _∷_, _++_, append-assoc, append-nil}
 use mathlib.Core.Logic.{_↔_}
 use Prim.Native.Nat.{ℕ, suc, _+_, _*_, _≤_, _<_}
@@ -8,21 +8,19 @@ use native.Mathlib.Omega.{arith}
 use lib.Dec.{leb, ltb}
 use lib.IntN.{pos, natAbs}
 use lib.ListN.{length, length-append}
-use borrow.Author.Tests.{ltb-true, ltb-false, lt-ltb, le-ltb, le-leb, leb-true, not-true}
+use borrow.Author.Tests.{ltb-true, ltb-false, lt-ltb, le-ltb, le-leb, leb-true}
 use Rattle.directed.specs.Choice.{if_then_else_, and-true}
 use Rattle.directed.specs.declared.Rounding.{Rounding}
 use Rattle.directed.specs.declared.Binary.the-variants.{Sum}
 use Rattle.directed.specs.Operations as operations
-use Rattle.directed.specs.Thousandths.{Pair, pair, exact, beyond-range, rounded}
-use Rattle.directed.specs.Range.{limit, range-ends, inside-size}
+use Rattle.directed.specs.Thousandths.{Pair, pair, exact, rounded}
 use Rattle.directed.specs.Answer.{Judgement, sound, cause}
 use Rattle.directed.specs.Result.{Result, value, refusal, at, after}
 use Rattle.directed_laws.specs.Thousandths.{sum-rounded}
-use Rattle.integers.specs.Sizes.{abs-sum-le}
-use Rattle.blocks.specs.Block.{Record, records, all-within, judgement, plus, sum-of}
+use Rattle.blocks.specs.Block.{Record, records, taken-sums, judgement, plus, sum-of}
 use Rattle.blocks.specs.BlockLaws.{count-is}
-use Rattle.blocks.specs.Causes.{Judged, accepted-judged, judged-holds, judged-is}
-use Rattle.blocks.specs.Scan.{plus-assoc, zero-plus}
+use Rattle.blocks.specs.Causes.{Judged, accepted-judged, judged-holds, judged-is, taken-true}
+use Rattle.blocks.specs.SumLaws.{sum-append, Bounded, plus-bounded, sum-bounded}
 use Rattle.day.specs.File.{judgement-at, accepted-at, all-records, Total, total-of}
 use Rattle.day.specs.Tally.{Count, count, first, most-records, most-sum, possible, counted, step, told}
 
@@ -30,31 +28,6 @@ use Rattle.day.specs.Tally.{Count, count, first, most-records, most-sum,
 pub plus-exact : (rounding : Rounding) (a b : Pair) → rounded rounding (operations.binary Sum (exact a) (exact b)) ≡ plus a b
 unfolding operations.binary
 plus-exact = sum-rounded
-
-pub sum-append : (rs qs : List Record) → sum-of (rs ++ qs) ≡ plus (sum-of rs) (sum-of qs)
-unfolding sum-of
-sum-append [] qs = sym (zero-plus (sum-of qs))
-sum-append (r ∷ rs) qs = ap (plus (r .ends)) (sum-append rs qs) ∙ sym (plus-assoc (r .ends) (sum-of rs) (sum-of qs))
-
--- no sum is beyond this for each record
-pub record Bounded (n : ℕ) (p : Pair) : Type 0 where
-  pub low : natAbs (p .lower) ≤ limit * n
-  pub high : natAbs (p .upper) ≤ limit * n
-
-pub plus-bounded : (m n : ℕ) (p q : Pair) → Bounded m p → Bounded n q → Bounded (m + n) (plus p q)
-plus-bounded m n p q a b = record {
-  low = omega (arith, a .low, b .low, abs-sum-le (p .lower) (q .lower));
-  high = omega (arith, a .high, b .high, abs-sum-le (p .upper) (q .upper));
-}
-
-pub sum-bounded : (rs : List Record) → all-within rs ≡ true → Bounded (length rs) (sum-of rs)
-unfolding sum-of all-within
-sum-bounded [] e = record { low = omega arith; high = omega arith }
-sum-bounded (r ∷ rs) e =
-    let p = and-true (not (beyond-range (r .ends))) (all-within rs) e in
-    let i = range-ends (r .ends) (not-true _ (p .0)) in
-    rw (let n : suc (length rs) ≡ 1 + length rs = omega arith in n)
-    (plus-bounded 1 (length rs) (r .ends) (sum-of rs) (record { low = omega (arith, inside-size _ (i .0)); high = omega (arith, inside-size _ (i .1)) }) (sum-bounded rs (p .1)))
 
 -- ---- a block in its place, by its causes
 pub data At (place : ℕ) (b : List ℕ) : Judgement → Type 0 where
@@ -111,12 +84,13 @@ possible-read c e =
     let q = and-true (leb (natAbs (c .sum .lower)) most-sum) _ (p .1) in
     (leb-true _ _ (p .0), leb-true _ _ (q .0), leb-true _ _ (q .1))
 
--- what the records of a block that is accepted come to
-pub block-sum-small : (place : ℕ) (b : List ℕ) → judgement place place b ≡ sound → (natAbs (sum-of (records b) .lower) ≤ most-sum) × (natAbs (sum-of (records b) .upper) ≤ most-sum)
+-- what is taken from a block that is accepted: the sum of its records, stored or not
+pub block-sum-small : (place : ℕ) (b : List ℕ) → judgement place place b ≡ sound → (natAbs (taken-sums b .lower) ≤ most-sum) × (natAbs (taken-sums b .upper) ≤ most-sum)
 block-sum-small place b e =
-    let l = accepted-judged (rw e at (judged-holds place place b)) .2 in
+    let j : Judged place place b sound = rw e at (judged-holds place place b) in
+    let l = accepted-judged j .2 in
     let w = sum-bounded (records b) (l .within) in
-    (omega (arith, l .few, count-is b, w .low), omega (arith, l .few, count-is b, w .high))
+    rw (taken-true j) (omega (arith, l .few, count-is b, w .low), omega (arith, l .few, count-is b, w .high))
 
 -- with a block that is accepted
 next : Count → List Record → Count
@@ -164,9 +138,9 @@ behind-behind rs qs (refusal n k) = refl
 
 -- one block: it is counted, or refused at its place
 module _ {c : Count} {place : ℕ} {rs : List Record} (s : Stands c place rs) (b : List ℕ) where
-  counted-sound : judgement-at place b ≡ sound → counted c b ≡ value (next c (records b))
+  counted-sound : Judged place place b sound → judgement-at place b ≡ sound → counted c b ≡ value (next c (records b))
   unfolding counted accepted-at next
-  counted-sound e = rw (stands-possible s, ap (λ (p : ℕ). judgement-at p b) (s .blocks-are) ∙ e)
+  counted-sound j e = rw (stands-possible s, ap (λ (p : ℕ). judgement-at p b) (s .blocks-are) ∙ e, taken-true j)
 
   counted-cause : {n : ℕ} → judgement-at place b ≡ cause n → counted c b ≡ refusal n place
   unfolding counted accepted-at
@@ -184,11 +158,11 @@ tell (b ∷ bs) {c} {place} {rs} s = go (at-holds place b) (λ h j. tell bs (sta
         → (place < 100 → Judged place place b sound → told (steps (value (next c (records b))) bs) ≡ behind (rs ++ records b) (all-records (suc place) bs))
         → told (steps (counted c b) bs) ≡ behind rs (all-records place (b ∷ bs))
     go {j = sound} (in-place h j) ih =
-        ap (λ t. told (steps t bs)) (counted-sound s b (at-is place b (in-place h j))) ∙ ih h j ∙ behind-behind rs (records b) (all-records (suc place) bs) ∙ sym (rw (at-is place b (in-place h j)))
+        ap (λ t. told (steps t bs)) (counted-sound s b j (at-is place b (in-place h j))) ∙ ih h j ∙ behind-behind rs (records b) (all-records (suc place) bs) ∙ sym (rw (at-is place b (in-place h j)))
     go {j = cause n} (in-place h j) ih = found (at-is place b (in-place h j))
     go (hundred-first h) ih = found (at-is place b (hundred-first h))
 
--- the tally of blocks tells what their records come to
+-- "Its printed total still equals the records.": the tally of blocks, of either layout each, tells what their records come to
 pub tally-report : (bs : List (List ℕ)) → told (steps first bs) ≡ after (all-records 0 bs) λ rs. value (total-of rs)
 unfolding behind
 tally-report bs = tell bs stands-first

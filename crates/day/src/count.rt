@@ -10,7 +10,7 @@ ghost use lib.IntN.{natAbs, _+ℤ_};
 ghost use lib.ListN.{length};
 ghost use Rattle.directed.specs.Answer.{sound, verdict-of};
 ghost use Rattle.directed.specs.Result.{value};
-ghost use Rattle.blocks.specs.Block.{records as records-of, judgement, plus, sum-of};
+ghost use Rattle.blocks.specs.Block.{records as records-of, taken-sums, judgement, plus};
 ghost use Rattle.blocks.specs.Sums.{total};
 ghost use Rattle.day.specs.File.{judgement-at};
 ghost use Rattle.day.specs.Tally.{tallied, count as counts, most-records, most-sum, possible, counted};
@@ -59,7 +59,7 @@ fn joined(a: Sums, b: Sums) -> Sums
 // With the records of a block that is accepted.
 fn extend(blocks: u32, records: u32, sums: Sums, block: &[u8]) -> Tally
     requires { ⌜ (blocks < 100) × (records ≤ most-records) × (natAbs (sums .lower) ≤ most-sum) × (natAbs (sums .upper) ≤ most-sum) × (judgement blocks blocks (now block) ≡ sound) ⌝ }
-    ensures { λ r. ⌜ tallied r ≡ value (counts (suc blocks) (records + length (records-of (now (block .entry)))) (plus (total sums) (sum-of (records-of (now (block .entry)))))) ⌝ }
+    ensures { λ r. ⌜ tallied r ≡ value (counts (suc blocks) (records + length (records-of (now (block .entry)))) (plus (total sums) (taken-sums (now (block .entry))))) ⌝ }
 {
     Tally::Counted {
         blocks: blocks + 1,

@@ -16,7 +16,7 @@ use Rattle.directed.specs.Tightest.{Tightest}
 use Rattle.directed.specs.declared.Answer.{Answer}
 use Rattle.directed.specs.declared.Answer.the-variants.{Value, Refused}
 use Rattle.directed.specs.declared.Cause.{Cause}
-use Rattle.directed.specs.declared.Cause.the-variants.{Malformed, EndBeyondRange, ShortBuffer, ResultBeyondRange, ZeroDivisor, UnknownCode, ShortConstant, StackUnderflow, StackOverflow, TooManySteps, NotOneValue, MalformedLine, BlockBounds, BlockChecksum, BlockLayout, Unsolvable, SeveralSolutions, SheetBounds, ConstantCount, NotInSeries, OddSum}
+use Rattle.directed.specs.declared.Cause.the-variants.{Malformed, EndBeyondRange, ShortBuffer, ResultBeyondRange, ZeroDivisor, UnknownCode, ShortConstant, StackUnderflow, StackOverflow, TooManySteps, NotOneValue, MalformedLine, BlockBounds, BlockChecksum, BlockLayout, Unsolvable, SeveralSolutions, SheetBounds, ConstantCount, NotInSeries, OddSum, BlockSums}
 use Rattle.directed.specs.declared.Interval.{Interval}
 use Rattle.directed.specs.declared.Rounding.{Rounding}
 use Rattle.directed_laws.specs.Rounding.{rounded-tightest}
@@ -25,7 +25,7 @@ use Rattle.directed_laws.specs.Rounding.{rounded-tightest}
 of-number : ℕ → Cause
 of-number n =
     getD
-    (Malformed ∷ EndBeyondRange ∷ ShortBuffer ∷ ResultBeyondRange ∷ ZeroDivisor ∷ UnknownCode ∷ ShortConstant ∷ StackUnderflow ∷ StackOverflow ∷ TooManySteps ∷ NotOneValue ∷ MalformedLine ∷ BlockBounds ∷ BlockChecksum ∷ BlockLayout ∷ Unsolvable ∷ SeveralSolutions ∷ SheetBounds ∷ ConstantCount ∷ NotInSeries ∷ OddSum ∷ [])
+    (Malformed ∷ EndBeyondRange ∷ ShortBuffer ∷ ResultBeyondRange ∷ ZeroDivisor ∷ UnknownCode ∷ ShortConstant ∷ StackUnderflow ∷ StackOverflow ∷ TooManySteps ∷ NotOneValue ∷ MalformedLine ∷ BlockBounds ∷ BlockChecksum ∷ BlockLayout ∷ Unsolvable ∷ SeveralSolutions ∷ SheetBounds ∷ ConstantCount ∷ NotInSeries ∷ OddSum ∷ BlockSums ∷ [])
     (n - 1) Malformed
 
 of-number-back : (k : Cause) → of-number (number k) ≡ k
@@ -51,6 +51,7 @@ of-number-back SheetBounds = refl
 of-number-back ConstantCount = refl
 of-number-back NotInSeries = refl
 of-number-back OddSum = refl
+of-number-back BlockSums = refl
 
 pub number-injective : (j k : Cause) → number j ≡ number k → j ≡ k
 number-injective j k e = sym (of-number-back j) ∙ ap of-number e ∙ of-number-back k

@@ -96,11 +96,11 @@ fn show_verdict(verdict: Verdict) {
     }
 }
 
-fn begin_in(number: u32, room: usize, lent: &mut [u8]) {
+fn begin_in(number: u32, layout: u32, room: usize, lent: &mut [u8]) {
     if lent.len() < room {
         return;
     }
-    show_verdict(blocks::begin(number, &mut lent[..room]));
+    show_verdict(blocks::begin(number, layout, &mut lent[..room]));
     show_bytes(lent);
 }
 
@@ -109,6 +109,7 @@ pub fn begin(line: &[u8]) {
     let mut lent = [b'#'; 520];
     begin_in(
         numbers::unsigned(line, 2),
+        numbers::unsigned(line, 3),
         numbers::size(line, 1),
         &mut lent,
     );

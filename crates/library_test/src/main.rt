@@ -7,7 +7,7 @@
 //   write 27 1000 2000          into the first 27 of 28 bytes, all `#` before; the answer shows all 28
 //   O list 00 e8 03 00 00       the list's bytes
 //   O within 06 20 00 e8 03     the same by a caller's limits, 6 values and 20 steps
-//   begin 512 99                into the first 512 of 520 bytes, all `#` before; the answer shows all 520, in runs: 00*1fb is 1fb times 00
+//   begin 512 99 1              of layout 1, into the first 512 of 520 bytes, all `#` before; the answer shows all 520, in runs: 00*1fb is 1fb times 00
 //   add 7 1 -1000 5 00*200      to the bytes behind box, line and the two ends; the answer shows them all
 // A result is its ends and the kind that it carries: `p` positive, `n` negative, `z` and `i` holding zero and proper or improper. An operand
 // carries the kind of its ends, or what a letter more says, one for each operand: `O sum 1000 2000 -1 1 .p`, with `.` for the first as it is.

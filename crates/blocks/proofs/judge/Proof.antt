@@ -5,7 +5,7 @@ use borrow.Author.Tests.{not-true, not-false}
 use lib.Seq.{slice}
 use Rattle.words.specs.Word.{word-at}
 use Rattle.blocks.specs.Block.{byte-sum}
-use Rattle.blocks.specs.Causes.{laid-out-read, laid-out-not, wrong-length, wrong-sum, wrong-layout, no-cause, judged-is}
+use Rattle.blocks.specs.Causes.{Laid-out, laid-out-read, laid-out-not, kept-read, kept-not, wrong-length, wrong-sum, wrong-layout, wrong-sums, no-cause, judged-is}
 use Rattle.blocks.proofs.judge.Statement.{statement}
 use Rattle.blocks.proofs.judge.Tie as tie
 
@@ -31,15 +31,31 @@ returns-3 c =
     sym (judged-is (a .first) (a .last) (a .block .now)
     (wrong-layout (n .if1 .left) (sum-right e) (laid-out-not (a .first) (a .last) (a .block .now) (sym (c .before .is-laid-out .ensures) ∙ not-true _ (c .if3 .taken)))))
 
+-- the layout is right
+laid : (c : tie.Else3) → let a = c .before .before .before .before .before .before .before .args in Laid-out (a .first) (a .last) (a .block .now)
+laid c =
+    let a = c .before .before .before .before .before .before .before .args in
+    laid-out-read (a .first) (a .last) (a .block .now) (sym (c .before .is-laid-out .ensures) ∙ not-false _ (c .if3 .left))
+
 returns-4 : tie.Need-returns-4
 returns-4 c =
-    let e = c .before .before in
+    let l = c .before .before in
+    let e = l .before .before in
     let n = e .before .before .before in
     let a = n .before .before .args in
     sym (judged-is (a .first) (a .last) (a .block .now)
-    (no-cause (n .if1 .left) (sum-right e) (laid-out-read (a .first) (a .last) (a .block .now) (sym (c .before .is-laid-out .ensures) ∙ not-false _ (c .if3 .left)))))
+    (wrong-sums (n .if1 .left) (sum-right e) (laid l) (kept-not (a .block .now) (sym (c .before .are-sums-kept .ensures) ∙ not-true _ (c .if4 .taken)))))
+
+returns-5 : tie.Need-returns-5
+returns-5 c =
+    let l = c .before .before in
+    let e = l .before .before in
+    let n = e .before .before .before in
+    let a = n .before .before .args in
+    sym (judged-is (a .first) (a .last) (a .block .now)
+    (no-cause (n .if1 .left) (sum-right e) (laid l) (kept-read (a .block .now) (sym (c .before .are-sums-kept .ensures) ∙ not-false _ (c .if4 .left)))))
 
 pub judge-spec : {M : Type 1} → statement M
 judge-spec =
     tie.close
-    (tie.spec returns (λ c κs. search needs) (λ c κs. search needs) returns-2 (λ c κs. search needs) returns-3 returns-4)
+    (tie.spec returns (λ c κs. search needs) (λ c κs. search needs) returns-2 (λ c κs. search needs) returns-3 (λ c κs. search needs) returns-4 returns-5)

@@ -1,7 +1,7 @@
 -- The tests of the header, in turn.
 use native.Mathlib.Omega.{arith}
 use borrow.Author.Needs.{needs}
-use Rattle.blocks.specs.Scan.{below-first, above-last, too-many, by-third}
+use Rattle.blocks.specs.Scan.{below-first, above-last, too-many, by-layout}
 use Rattle.blocks.proofs.layout.is_headed.Statement.{statement}
 use Rattle.blocks.proofs.layout.is_headed.Tie as tie
 
@@ -30,7 +30,7 @@ returns-4 c =
     let e = t .before .before in
     let n = e .before .before in
     let a = n .before .before .args in
-    by-third (a .first) (a .last) (a .block .now) (omega (arith, n .number-of .ensures, e .before .if1 .left)) (omega (arith, n .number-of .ensures, e .if2 .left)) (t .if3 .left)
+    by-layout (a .first) (a .last) (a .block .now) (omega (arith, n .number-of .ensures, e .before .if1 .left)) (omega (arith, n .number-of .ensures, e .if2 .left)) (t .if3 .left)
 
 pub is-headed-spec : {M : Type 1} → statement M
 is-headed-spec = tie.close (tie.spec (λ c κs. search needs) returns returns-2 (λ c. search needs) returns-3 (λ c. search needs) returns-4)

@@ -5,7 +5,8 @@ use native.Mathlib.Omega.{arith}
 use lib.IntN.{natAbs}
 use Rattle.directed.specs.Lift.{pair-of}
 use Rattle.blocks.specs.Block.{record-at, records-from, plus, sum-of}
-use Rattle.blocks.specs.Scan.{sum-of-next, sum-of-done, plus-assoc, plus-zero, zero-plus}
+use Rattle.blocks.specs.Scan.{sum-of-next, sum-of-done}
+use Rattle.blocks.specs.SumLaws.{plus-assoc, plus-zero, zero-plus}
 use Rattle.blocks.specs.Sums.{total}
 use Rattle.blocks.proofs.layout.sum_records.Statement.{statement}
 use Rattle.blocks.proofs.layout.sum_records.Tie as tie
