@@ -11,6 +11,7 @@ mod library;
 mod office;
 mod paper;
 mod program;
+mod put_back;
 mod random;
 mod sheet;
 mod series;
@@ -229,6 +230,10 @@ fn main() {
         Err(message) => stop(&format!("FAILED: {message}")),
     }
     match series::compare(options.seed) {
+        Ok(told) => println!("{told}"),
+        Err(message) => stop(&format!("FAILED: {message}")),
+    }
+    match put_back::compare(options.seed) {
         Ok(told) => println!("{told}"),
         Err(message) => stop(&format!("FAILED: {message}")),
     }
