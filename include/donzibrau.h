@@ -24,6 +24,9 @@
 extern "C" {
 #endif
 
+/* The version, here and nowhere else: the commands, donzibrau.pc and the man pages take it from this line. CHANGES.md says what each one brought. */
+#define DZB_VERSION "1.14.0"
+
 /* A pair: lower end, upper end. */
 typedef int32_t dzb_pair[2];
 
