@@ -18,18 +18,21 @@ ARCHIVE = target/staticlib/libcapi.a
 SHARED = target/lib/libdonzibrau.so
 PAGES = $(PROGRAMS:%=%.1) donzibrau.3
 
-.PHONY: all programs archive shared install uninstall check
+SOURCES := $(shell find crates crates.txt -type f)
+
+.PHONY: all programs shared install uninstall check
 all: programs shared
 
-# `rt` itself sees what changed.
+# `rt` itself sees what changed; an archive it makes anew each time, and so only where a source is newer.
 programs:
 	rt check $(PROGRAMS)
 
-archive:
+$(ARCHIVE): $(SOURCES)
 	rt staticlib capi
 
 # The archive's functions, and no other name of it, as a shared library.
-shared: archive
+shared: $(SHARED)
+$(SHARED): $(ARCHIVE) include/donzibrau.h
 	mkdir -p target/lib
 	printf '{ global: dzb_*; local: *; };\n' >target/lib/exports
 	$(CC) -shared -o $(SHARED).$(VERSION) -Wl,-soname,libdonzibrau.so.$(MAJOR) -Wl,--version-script,target/lib/exports -Wl,--no-undefined \

@@ -128,11 +128,23 @@ uint32_t dzb_write(int32_t lower, int32_t upper, uint8_t *buffer, size_t length,
 
 /* ---- lists of steps, lines */
 
+/* The code of a step, a byte. Behind that of a constant come 8 bytes: lower, upper, 32-bit two's complement, low byte first. */
+enum dzb_code {
+    DZB_CODE_CONSTANT = 0,
+    DZB_CODE_SUM = 1,
+    DZB_CODE_DIFFERENCE = 2,
+    DZB_CODE_PRODUCT = 3,
+    DZB_CODE_NEGATION = 4,
+    DZB_CODE_OPPOSITE = 5,
+    DZB_CODE_DUAL = 6,
+    DZB_CODE_JOIN = 7,
+    DZB_CODE_MEET = 8,
+    DZB_CODE_QUOTIENT = 9
+};
+
 /* The value of a list of steps in a way: both ends of `result` are written. Refused, with nothing written: at a step 10, 6, 7, 2, 8 or 9, or
  * at the end 11, or only then 5 or 4 at the earliest step that has one of them, 5 before 4 at one step: a divisor is looked at as it was
- * rounded. The number returned has the step too: see dzb_number and dzb_step.
- * A step is one byte: 0 constant (8 bytes follow: lower, upper, 32-bit two's complement, low byte first), 1 sum, 2 difference, 3 product,
- * 4 negation, 5 opposite, 6 dual, 7 join, 8 meet, 9 quotient. */
+ * rounded. The number returned has the step too: see dzb_number and dzb_step. */
 uint32_t dzb_list(const uint8_t *list, size_t length, bool inward, dzb_pair result);
 
 /* The same for a caller with a share of memory of its own: at most `values` values wait at once, and the list has at most `steps` steps; 9 and 10
