@@ -43,7 +43,7 @@ $(SHARED): $(ARCHIVE) include/donzibrau.h
 # The commands stand as in a checkout, without crates.txt: then nothing is built.
 install: all
 	$(INSTALL) -d $(addprefix $(DESTDIR),$(BINDIR) $(LIBDIR)/pkgconfig $(LIBEXECDIR)/bin $(LIBEXECDIR)/tools $(LIBEXECDIR)/docs/help $(INCLUDEDIR) \
-	    $(MANDIR)/man1 $(MANDIR)/man3 $(DOCDIR))
+	    $(MANDIR)/man1 $(MANDIR)/man3 $(DOCDIR)/examples)
 	$(INSTALL) $(PROGRAMS:%=target/bin/%) $(DESTDIR)$(LIBEXECDIR)/bin
 	$(INSTALL) $(PROGRAMS) $(DESTDIR)$(LIBEXECDIR)
 	$(INSTALL) tools/program $(DESTDIR)$(LIBEXECDIR)/tools
@@ -59,7 +59,8 @@ install: all
 	sed -e 's|@PREFIX@|$(PREFIX)|' -e 's|@LIBDIR@|$(LIBDIR)|' -e 's|@INCLUDEDIR@|$(INCLUDEDIR)|' -e 's|@VERSION@|$(VERSION)|' tools/donzibrau.pc.in \
 	    >$(DESTDIR)$(LIBDIR)/pkgconfig/donzibrau.pc
 	for page in $(PAGES); do tools/manual $$page >$(DESTDIR)$(MANDIR)/man$${page##*.}/$$(case $$page in *.1) echo $(PROGRAM_PREFIX);; esac)$$page || exit 1; done
-	$(INSTALL) -m 644 README.md CHANGES.md $(wildcard docs/*.md docs/*.svg) $(DESTDIR)$(DOCDIR)
+	$(INSTALL) -m 644 README.md CHANGES.md docs/CLERK.md docs/EMBEDDING.md docs/count.svg $(DESTDIR)$(DOCDIR)
+	$(INSTALL) -m 644 examples/weigh_box.c examples/bare.c examples/cash_up.py $(DESTDIR)$(DOCDIR)/examples
 
 uninstall:
 	rm -rf $(DESTDIR)$(LIBEXECDIR) $(DESTDIR)$(DOCDIR)
