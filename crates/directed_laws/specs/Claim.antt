@@ -9,7 +9,7 @@ use Rattle.integers.specs.Locals.{le-true, true-le}
 use Rattle.directed.specs.Answer.{Outcome, outcome, built, sound, cause, unless, given, divisor, within-range, in-range, value, refusal}
 use Rattle.directed.specs.Choice.{and-true}
 use Rattle.directed.specs.Claim.{replies, replied, contains, covers, same, is-count, examined, claim}
-use Rattle.directed.specs.Equation.{Solves, solution, unjudged-equation, equation}
+use Rattle.directed.specs.Equation.{Only, solution, unjudged-equation, equation}
 use Rattle.directed.specs.Exact.{Exact, Sign, Sort, sort, zero-free, holds-zero, _⊑_, _≋_}
 use Rattle.directed.specs.KindLaws.{agrees-built, sound-parts}
 use Rattle.directed.specs.Lift.{interval, pair-of, agrees, faulty}
@@ -22,9 +22,10 @@ use Rattle.directed.specs.declared.Interval.{Interval}
 use Rattle.directed.specs.declared.Replies.{Replies}
 use Rattle.directed.specs.declared.Rounding.the-variants.{Outward}
 use Rattle.directed_laws.specs.Answer.{given-by, given-sound, refusal-clash, refusal-value, sound-cause}
-use Rattle.directed_laws.specs.Equation.{solution-exists, solution-unique}
 use Rattle.directed_laws.specs.Fraction.{≈-sym}
 use Rattle.directed_laws.specs.Isotone.{⊑-trans, ≋→⊑}
+use Rattle.directed_laws.specs.Solution.{solution-iff}
+use Rattle.directed_laws.specs.Solutions.{only-same}
 use Rattle.directed_laws.specs.Rounding.{outward-iff, ⊆-refl, ⊆-antisym, rounded-tightest, tightest-unique}
 
 -- ---- the tests
@@ -94,8 +95,7 @@ count-free a c b s free = rw free refl
 -- would print"
 pub record Honest (a c b p : Pair) (r : Replies) : Type 0 where
   pub x : Exact
-  pub solves : Solves (exact a) (exact c) (exact b) x
-  pub only : (y : Exact) → Solves (exact a) (exact c) (exact b) y → y ≋ x
+  pub only : Only (exact a) (exact c) (exact b) x
   pub contains-iff : (r .contains ≡ true) ↔ (x ⊑ exact p)
   pub count : Pair
   pub is-smallest : Smallest x count
@@ -104,14 +104,12 @@ pub record Honest (a c b p : Pair) (r : Replies) : Type 0 where
 honest : (a c b p : Pair) (s : Sign) → sort (exact c) ≡ zero-free s → Honest a c b p (examined a c b p)
 honest a c b p s free =
     let x : Exact = solution (exact a) (exact c) (exact b) in
-    let h : Solves (exact a) (exact c) (exact b) x = solution-exists (exact a) (exact c) (exact b) s free in
     let i = is-count-iff p (unjudged-equation Outward a c b) in
     let j = in-range-iff (rounded Outward x) p in
     let e = count-free a c b s free in
     record {
       x = x;
-      solves = h;
-      only = λ y k. solution-unique (exact a) (exact c) (exact b) s free y x k h;
+      only = solution-iff (exact a) (exact c) (exact b) s free;
       contains-iff = contains-iff p x;
       count = rounded Outward x;
       is-smallest = rounded-tightest Outward x;
@@ -121,7 +119,7 @@ honest a c b p s free =
 -- no other replies are
 honest-only : (a c b p : Pair) (r t : Replies) → Honest a c b p r → Honest a c b p t → r ≡ t
 honest-only a c b p r t h k =
-    let e : h .x ≋ k .x = k .only (h .x) (h .solves) in
+    let e : h .x ≋ k .x = only-same (exact a) (exact c) (exact b) (h .x) (k .x) (h .only) (k .only) in
     let f : h .count ≡ k .count = tightest-unique Outward e (h .is-smallest) (k .is-smallest) in
     let back : k .x ⊑ h .x = ≋→⊑ (k .x) (h .x) (λ i. ≈-sym (e i)) in
     ap₂ replies

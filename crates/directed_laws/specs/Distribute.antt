@@ -15,14 +15,11 @@ use Rattle.integers.specs.Parts.{sum, minus, is-diff, diffs, lin}
 use Rattle.directed.specs.Fraction.{Fraction, _≈_, _+ᶠ_, _*ᶠ_, is-positive, is-negative}
 use Rattle.directed.specs.Exact.{Exact, Sign, ⁺, ⁻, _·_, _!_, zero-free, sort, _≋_, dual}
 use Rattle.directed.specs.Operations.{_⊞_, _⊠_}
-use Rattle.directed_laws.specs.Fraction.{≈-sym, ≈-trans, ≈→≼, ≼-antisym, +ᶠ-mono}
+use Rattle.directed_laws.specs.Fraction.{≈-sym, ≈-trans, +ᶠ-cong}
 use Rattle.directed_laws.specs.ZeroFree.{side, Signed, free-ends, chosen, apart}
 use Rattle.directed_laws.specs.Solution.{sum-at}
 
 -- ---- of fractions
-+ᶠ-cong : {x y z w : Fraction} → x ≈ z → y ≈ w → x +ᶠ y ≈ z +ᶠ w
-+ᶠ-cong e f = ≼-antisym (+ᶠ-mono (≈→≼ e) (≈→≼ f)) (+ᶠ-mono (≈→≼ (≈-sym e)) (≈→≼ (≈-sym f)))
-
 +ᶠ-*ᶠ : (x y z : Fraction) → (x +ᶠ y) *ᶠ z ≈ x *ᶠ z +ᶠ y *ᶠ z
 unfolding _+ᶠ_ _*ᶠ_
 +ᶠ-*ᶠ x y z = record { cross = go (x .num) (y .num) (z .num) (x .den) (y .den) (z .den) }

@@ -3,7 +3,7 @@
 use mathlib.Core.Path.{_≡_, refl, sym, ap, subst}
 use Rattle.directed.specs.Answer as answer
 use Rattle.directed.specs.Answer.{outcome, built}
-use Rattle.directed.specs.Equation.{Solves, equation}
+use Rattle.directed.specs.Equation.{Count, equation}
 use Rattle.directed.specs.Exact.{Exact, _≋_}
 use Rattle.directed.specs.Lift.{pair-of}
 use Rattle.directed.specs.Operations as operations
@@ -17,23 +17,18 @@ use Rattle.directed.specs.declared.Interval.{Interval}
 use Rattle.directed.specs.declared.Rounding.{Rounding}
 use Rattle.directed.specs.declared.Rounding.the-variants.{Outward, Inward}
 use Rattle.directed_laws.specs.Equation.{answered-iff}
-use Rattle.directed_laws.specs.Fraction.{≈-refl, ≈-sym}
+use Rattle.directed_laws.specs.Fraction.{≈-sym}
 use Rattle.directed_laws.specs.Isotone.{⊑-trans, ≋→⊑, binary-isotone}
 use Rattle.directed_laws.specs.Operations.{binary-exactly}
+use Rattle.directed_laws.specs.Solutions.{only-solves}
 use Rattle.directed_laws.specs.Rounding.{exact-iff, toward-refl, toward-tightest}
 
 -- ---- what a value that is returned tells
--- p is a count of a solution, whatever c is
-record Counts (w : Rounding) (a c b p : Pair) : Type 0 where
-  x : Exact
-  solves : Solves (exact a) (exact c) (exact b) x
-  tightest : Tightest w x p
-
-equation-value : (w : Rounding) (a c b x : Interval) → outcome (Value x) ≡ built (equation w a c b) → Counts w (pair-of a) (pair-of c) (pair-of b) (pair-of x)
+-- p is the count, whatever c is
+equation-value : (w : Rounding) (a c b x : Interval) → outcome (Value x) ≡ built (equation w a c b) → Count w (exact (pair-of a)) (exact (pair-of c)) (exact (pair-of b)) (pair-of x)
 equation-value w a c b x contract =
     let k = answered-iff w a c b (outcome (Value x)) .0 contract .result x .0 refl .1 in
-    let h = k .1 .0 in
-    record { x = h .x; solves = h .only (h .x) .1 (λ i. ≈-refl _); tightest = subst (λ (p : Pair). Tightest w (h .x) p) (sym (ap pair-of (k .1 .2))) (h .tightest) }
+    subst (λ (p : Pair). Count w (exact (pair-of a)) (exact (pair-of c)) (exact (pair-of b)) p) (sym (ap pair-of (k .1 .2))) (k .1 .0)
 
 binary-value : (w : Rounding) (op : Binary) (a b x : Interval) → outcome (Value x) ≡ built (answer.binary w op a b) → Tightest w (operations.binary op (exact (pair-of a)) (exact (pair-of b))) (pair-of x)
 binary-value w op a b x contract =
@@ -60,7 +55,7 @@ put-back w a c b x y z s =
     let p = toward-tightest w (k .x) (k .x) (pair-of x) (toward-refl w (k .x)) (k .tightest) in
     let q = toward-tightest w (ec ⊠ k .x) (ec ⊠ exact (pair-of x)) (pair-of y) (binary-isotone Product w ec (k .x) ec (exact (pair-of x)) refl refl (toward-refl w ec) p) (binary-value w Product c x y (s .product)) in
     let r = toward-tightest w (ea ⊞ ec ⊠ k .x) (ea ⊞ exact (pair-of y)) (pair-of z) (binary-isotone Sum w ea (ec ⊠ k .x) ea (exact (pair-of y)) refl refl (toward-refl w ea) q) (binary-value w Sum a y z (s .sum)) in
-    toward-same w (exact (pair-of b)) (ea ⊞ ec ⊠ k .x) (exact (pair-of z)) (k .solves) r
+    toward-same w (exact (pair-of b)) (ea ⊞ ec ⊠ k .x) (exact (pair-of z)) (only-solves (exact (pair-of a)) (exact (pair-of c)) (exact (pair-of b)) (k .x) (k .only)) r
 
 module _ (a c b x y z : Interval) where
   -- "contains b"
