@@ -1,7 +1,7 @@
 -- What the generator answers goes through the series from its first list to its last, and the next is the least above.
 use mathlib.Core.Path.{_≡_, refl, sym, ap, _∙_}
 use mathlib.Core.Bool.{Bool, true, false, true≢false}
-use mathlib.Core.Logic.{⊎-elim}
+use mathlib.Core.Logic.{_⊎_, inl, inr, ⊎-elim}
 use mathlib.Core.List.{List, [], _∷_, _++_, append-assoc, map, List·Memᴰ, List·Memᴰ·head, List·Memᴰ·tail, List·Memᴰ·not-nil, List·Memᴰ·cases-cons, List·Memᴰ·append-cases, Memᴰ·cast, Memᴰ·append-right}
 use Prim.Native.Nat.{ℕ, _+_, _≤_, _<_}
 use native.Mathlib.Omega.{arith}
@@ -41,6 +41,13 @@ not-counted {k} n = go (counted k) refl
     go true e = absurd (n (true-counted e))
     go false e = e
 
+pub counted-or-not : (k : ℕ) → Counted k ⊎ (Counted k → ⊥)
+counted-or-not k = go (counted k) refl
+  where
+    go : (b : Bool) → counted k ≡ b → Counted k ⊎ (Counted k → ⊥)
+    go true e = inl (true-counted e)
+    go false e = inr (λ q. true≢false (sym (counted-true q) ∙ e))
+
 -- ---- lists of bytes that are the same
 same-refl : (a : List ℕ) → same a a ≡ true
 unfolding same
@@ -67,10 +74,15 @@ unfolding behind
 behind-there [] t c a = rw (same-refl c)
 behind-there (x ∷ s) t c a = rw (other c x (λ e. a .0 (Memᴰ·cast (sym e) (Memᴰ·append-right s (List·Memᴰ·head refl))))) (behind-there s t c (a .1))
 
-behind-none : (b : List ℕ) (s : List (List ℕ)) → (List·Memᴰ b s → ⊥) → behind b s ≡ refusal 20
+behind-or-not : (b : List ℕ) (s : List (List ℕ)) → List·Memᴰ b s ⊎ (behind b s ≡ refusal 20)
 unfolding behind
-behind-none b [] n = refl
-behind-none b (c ∷ s) n = rw (other b c (λ e. n (List·Memᴰ·head e))) (behind-none b s (λ m. n (List·Memᴰ·tail m)))
+behind-or-not b [] = inr refl
+behind-or-not b (c ∷ s) = go (same b c) refl (behind-or-not b s)
+  where
+    go : (t : Bool) → same b c ≡ t → List·Memᴰ b s ⊎ (behind b s ≡ refusal 20) → List·Memᴰ b (c ∷ s) ⊎ (behind b (c ∷ s) ≡ refusal 20)
+    go true e o = inl (List·Memᴰ·head (same-equal b c e))
+    go false e (inl m) = inl (List·Memᴰ·tail m)
+    go false e (inr z) = inr (rw e z)
 
 -- ---- THE CALLS GO THROUGH THE SERIES: from each list to the one that stands behind it, and from the last to none.
 pub calls-series : (k : ℕ) → Counted k → (first-of k ≡ foremost (byte-lists k)) × ((s t : List (List ℕ)) (c : List ℕ) → byte-lists k ≡ s ++ (c ∷ t) → next-of k c ≡ foremost t)
@@ -173,9 +185,16 @@ module _ (k : ℕ) (q : Counted k) where
       go [] a = refl
       go (e ∷ t) a = let b = a e (List·Memᴰ·head refl) in absurd (l .greatest e (b .0) (b .1))
 
-  pub not-there : {b : List ℕ} → (InSeries k b → ⊥) → next-of k b ≡ refusal 20
+  pub there-or-not : (b : List ℕ) → InSeries k b ⊎ (next-of k b ≡ refusal 20)
   unfolding next-of
-  not-there {b} n = rw (counted-true q) (behind-none b (byte-lists k) (λ m. let w = written-from (series k) m in n (record { steps = w .steps; member = series-iff k (q .few) (w .steps) .0 (w .there); is = sym (w .is) })))
+  there-or-not b =
+      ⊎-elim
+      (λ m. let w = written-from (series k) m in inl (record { steps = w .steps; member = series-iff k (q .few) (w .steps) .0 (w .there); is = sym (w .is) }))
+      (λ e. inr (rw (counted-true q) e))
+      (behind-or-not b (byte-lists k))
+
+  pub not-there : {b : List ℕ} → (InSeries k b → ⊥) → next-of k b ≡ refusal 20
+  not-there {b} n = ⊎-elim (λ i. absurd (n i)) (λ e. e) (there-or-not b)
 
   pub begins : {ds : List ℕ} → First k ds → first-of k ≡ found (bytes ds)
   unfolding first-of foremost
