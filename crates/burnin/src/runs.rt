@@ -4,11 +4,13 @@ ghost use mathlib.Core.Bool.{false};
 ghost use Prim.Native.Nat.{_≤_};
 ghost use lib.ListN.{length, take};
 ghost use Rattle.decimal.specs.PlaceLaws.{Fitting};
+ghost use Rattle.lists.specs.Lists.{answer, outcome, built};
 ghost use Rattle.series.specs.Series.{series, first-of, next-of, reply};
 ghost use Rattle.series.specs.Generator.{Counted};
 ghost use Rattle.series.specs.Returned.{Stands, length-of};
 ghost use Rattle.burnin.specs.Lists.{eight, expanded};
 use crate::compare;
+use comparison::Both;
 use directed::Rounding;
 use lists::Limits;
 use series::Generated;
@@ -50,10 +52,21 @@ fn fill(list: &[u8], constants: &[u8], out: &mut [u8]) -> usize
     next
 }
 
-fn differ_on(list: &[u8], rounding: Rounding) -> bool
+// What both engines answer to a list of the series with the constants in place, at the slip's limits.
+fn answers(list: &[u8], constants: &[u8], rounding: Rounding) -> Both
+    requires { ⌜ length (now list) ≤ 10 ⌝ }
+    ensures { λ r. ⌜ (outcome (r .engine) ≡ built (answer 16 64 rounding (expanded (eight (now (constants .entry))) (now (list .entry))))) × (r .evaluator ≡ r .engine) ⌝ }
+{
+    let mut bytes = [0u8; 64];
+    let n = fill(list, constants, &mut bytes);
+    comparison::evaluate_both(&bytes[..n], rounding, Limits::MOST)
+}
+
+fn differ_in(list: &[u8], constants: &[u8], rounding: Rounding) -> bool
+    requires { ⌜ length (now list) ≤ 10 ⌝ }
     ensures { λ r. ⌜ r ≡ false ⌝ }
 {
-    let both = comparison::evaluate_both(list, rounding, Limits::MOST);
+    let both = answers(list, constants, rounding);
     let engine = both.engine;
     let evaluator = both.evaluator;
     compare::differ(evaluator, engine)
@@ -64,12 +77,10 @@ fn differ(list: &[u8], constants: &[u8]) -> bool
     requires { ⌜ length (now list) ≤ 10 ⌝ }
     ensures { λ r. ⌜ r ≡ false ⌝ }
 {
-    let mut bytes = [0u8; 64];
-    let n = fill(list, constants, &mut bytes);
-    if differ_on(&bytes[..n], Rounding::Outward) {
+    if differ_in(list, constants, Rounding::Outward) {
         return true;
     }
-    differ_on(&bytes[..n], Rounding::Inward)
+    differ_in(list, constants, Rounding::Inward)
 }
 
 // How many bytes the list has that a call has left; 0 where it has left none.
