@@ -181,12 +181,13 @@ impl Reading {
         Ok(met)
     }
 
-    /// Lists of the series with some bytes altered, cut off or added, in buffers of every length.
+    /// Lists of the series, or none at all, with some bytes altered, cut off or added, in buffers of every length.
     fn damaged(&self, calls: usize, r: &mut Random) -> Result<BTreeMap<u32, usize>, String> {
         let mut causes = BTreeMap::new();
         for _ in 0..calls {
             let count = r.index(7);
-            let mut list = self.lists[r.index(4)].get(r.index(577)).cloned().unwrap_or_default();
+            let all = &self.lists[r.index(4)];
+            let mut list = if r.percent(2) { Vec::new() } else { all[r.index(all.len())].clone() };
             while r.percent(60) {
                 match r.index(4) {
                     0 => {
