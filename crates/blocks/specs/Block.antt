@@ -153,8 +153,11 @@ full b = if eqb (count-of b) 30 then cause 13 else sound
 unfoldable pub addable : Interval → List ℕ → Judgement
 addable count b = judgement 0 99 b otherwise full b otherwise given (count ∷ [])
 
+abbrev pub extended : ℕ → ℕ → Interval → List ℕ → List ℕ
+extended box line count b = block (number-of b) (layout-of b) (records b ++ (record-of box line (pair-of count) ∷ []))
+
 unfoldable pub added : ℕ → ℕ → Interval → List ℕ → Outcome (List ℕ)
-added box line count b = unless (addable count b) (value (block (number-of b) (layout-of b) (records b ++ (record-of box line (pair-of count) ∷ []))))
+added box line count b = unless (addable count b) (value (extended box line count b))
 
 -- what a call says, and the lent bytes behind it: "it is returned .. and everything lent stays"
 pub record Stored : Type 0 where

@@ -145,7 +145,23 @@ module _ (number layout : ℕ) (rs : List Record) where
       ap (λ l. records-from (length rs) 4 (header number (length rs) layout ++ l)) (append-assoc (records-bytes rs) _ S)
       ∙ records-behind (header number (length rs) layout) _ (length rs) 0 ∙ records-back rs _ e
 
+  -- bytes 0 to 483
+  unfoldable pub early : List ℕ
+  early = header number (length rs) layout ++ (records-bytes rs ++ replicate (480 - 16 * length rs) 0)
+
+  -- bytes 508 to 511
+  unfoldable pub sealing : List ℕ
+  sealing = word-bytes (byte-sum (contents number layout rs))
+
+  pub block-late : block number layout rs ≡ early ++ (sums layout rs ++ (replicate 8 0 ++ sealing))
+  unfolding block contents early sealing
+  block-late = simp append-assoc
+
   module _ (few : length rs ≤ 30) where
+    pub early-length : length early ≡ 484
+    unfolding early
+    early-length = simp (length-append, length-replicate) (omega (arith, records-length rs))
+
     pub contents-length : length (contents number layout rs) ≡ 508
     unfolding contents
     contents-length = simp (length-append, length-replicate, sums-length) (omega (arith, records-length rs))
@@ -162,15 +178,12 @@ module _ (number layout : ℕ) (rs : List Record) where
         ap byte-sum (take-at C S 508 contents-length)
         ∙ sym (ap (word-at (C ++ S)) (let e : 508 ≡ length C + 0 = omega (arith, contents-length) in e) ∙ word-behind C S 0 ∙ word-back (byte-sum C) [])
 
-    -- the parts from the header on: the last four are the unused record bytes, the sums, zeros and the sum of bytes
+    -- the header and the records, then the unused record bytes
     front : List ℕ
     front = header number (length rs) layout ++ records-bytes rs
 
     unused : List ℕ
     unused = replicate (480 - 16 * length rs) 0
-
-    sealing : List ℕ
-    sealing = word-bytes (byte-sum (contents number layout rs))
 
     front-length : length front ≡ 4 + 16 * length rs
     unfolding front
@@ -187,21 +200,9 @@ module _ (number layout : ℕ) (rs : List Record) where
         ∙ ap all-zero (slice-mid front unused _ (4 + 16 * length rs) 484 front-length (omega (arith, length-replicate {A = ℕ} (480 - 16 * length rs) 0)))
         ∙ zeros-all (480 - 16 * length rs)
 
-    -- bytes 0 to 483
-    early : List ℕ
-    early = front ++ unused
-
-    early-length : length early ≡ 484
-    unfolding early unused
-    early-length = omega (arith, length-append front (replicate (480 - 16 * length rs) 0), front-length, length-replicate {A = ℕ} (480 - 16 * length rs) 0)
-
-    late : block number layout rs ≡ early ++ (sums layout rs ++ (replicate 8 0 ++ sealing))
-    unfolding early
-    late = parts ∙ sym (append-assoc front unused _)
-
     pub block-spare : all-zero (slice (spare layout) 508 (block number layout rs)) ≡ true
     unfolding spare sums
-    block-spare = ap (λ l. all-zero (slice (spare layout) 508 l)) late ∙ go (eqb layout 1)
+    block-spare = ap (λ l. all-zero (slice (spare layout) 508 l)) block-late ∙ go (eqb layout 1)
       where
         go : (t : Bool) → all-zero (slice (if t then 500 else 484) 508 (early ++ ((if t then sums-bytes (sum-of rs) else replicate 16 0) ++ (replicate 8 0 ++ sealing)))) ≡ true
         go true =
@@ -216,7 +217,7 @@ module _ (number layout : ℕ) (rs : List Record) where
         let L = signed-long-bytes (p .lower) in
         let U = signed-long-bytes (p .upper) in
         let rest : List ℕ = replicate 8 0 ++ sealing in
-        let e : block number layout rs ≡ early ++ (L ++ (U ++ rest)) = late ∙ ap (λ l. early ++ (l ++ rest)) (sums-carried layout rs) in
+        let e : block number layout rs ≡ early ++ (L ++ (U ++ rest)) = block-late ∙ ap (λ l. early ++ (l ++ rest)) (sums-carried layout rs) in
         let n : 484 ≡ length early + 0 = omega (arith, early-length) in
         let m : 492 ≡ length early + 8 = omega (arith, early-length) in
         ap stored-sums e

@@ -2,7 +2,7 @@
 -- adding: the block's, then 13, then 2.
 use mathlib.Core.Path.{_≡_, refl, sym, ap₂, _∙_}
 use mathlib.Core.Bool.{Bool, true, false, not, _&&_, _||_, false≢true}
-use mathlib.Core.List.{List, [], _∷_, _++_}
+use mathlib.Core.List.{List, [], _∷_}
 use mathlib.Core.Logic.{_↔_}
 use Prim.Native.Nat.{ℕ, _+_, _*_, _≤_, _<_}
 use native.Mathlib.Omega.{arith}
@@ -13,11 +13,11 @@ use borrow.Author.Tests.{leb-true, le-leb, ltb-true, ltb-false, lt-ltb, le-ltb, 
 use Rattle.directed.specs.declared.Interval.{Interval}
 use Rattle.directed.specs.Choice.{if_then_else_, and-true}
 use Rattle.directed.specs.Answer.{Outcome, value, refusal, Judgement, sound, cause, unless, _otherwise_, given}
-use Rattle.directed.specs.Lift.{pair-of, faulty}
+use Rattle.directed.specs.Lift.{faulty}
 use Rattle.directed.specs.Thousandths.{Pair, pair}
 use Rattle.integers.specs.Equal.{eqZ, eqZ-refl, eqZ-true}
 use Rattle.words.specs.Word.{word-at}
-use Rattle.blocks.specs.Block.{record-of, sum-of, byte-sum, block, number-of, count-of, layout-of, records, stored-sums, taken-sums, summed, all-zero, all-within, headed, spare, laid-out, same, kept, judgement, begun, full, addable, added}
+use Rattle.blocks.specs.Block.{sum-of, byte-sum, block, number-of, count-of, layout-of, records, stored-sums, taken-sums, summed, all-zero, all-within, headed, spare, laid-out, same, kept, judgement, begun, full, addable, extended, added}
 
 -- ---- the layout: each field as it should be, or the first that is not
 pub record Laid-out (first last : ℕ) (b : List ℕ) : Type 0 where
@@ -183,9 +183,6 @@ module _ (number layout : ℕ) (d : List ℕ) where
   begun-exactly o = ((λ e. rw e at begins-holds), begins-is)
 
 -- ---- adding
-abbrev pub extended : ℕ → ℕ → Interval → List ℕ → List ℕ
-extended box line count b = block (number-of b) (layout-of b) (records b ++ (record-of box line (pair-of count) ∷ []))
-
 pub data Adds (box line : ℕ) (count : Interval) (b : List ℕ) : Outcome (List ℕ) → Type 0 where
   block-refused : {n : ℕ} → Judged 0 99 b (cause n) → Adds box line count b (refusal n)
   holds-30 : Judged 0 99 b sound → count-of b ≡ 30 → Adds box line count b (refusal 13)

@@ -84,14 +84,22 @@ made-block (adding {d = d} box line count r m e f) =
     let b = made-block m in
     added-block (b .number-is) (b .layout-is) (b .records-are) (added-exactly box line count d _ .0 (said-sound (added box line count d) d e f))
 
--- "Adding a record keeps both sums true.": those stored in a block of layout 1 are the sums of the records that were added
-pub made-sums : {number : ℕ} {rs : List Record} {l : List ℕ} → Made number 1 rs l → stored-sums l ≡ sum-of rs
-made-sums {number} {rs} m =
-    let b = made-block m in
-    ap (λ (l : List ℕ). stored-sums l) (b .is) ∙ block-stored number 1 rs (b .few) (b .within) ∙ carried-sum 1 rs refl
-
 -- the same of any bytes that are accepted, whoever made them
 pub adding-block : {l : List ℕ} (box line : ℕ) (count : Interval) (d : List ℕ) (r : Verdict)
     → stored (verdict-of r) l ≡ storing (added box line count d) d → verdict-of r ≡ sound
     → Is-block (number-of d) (layout-of d) (records d ++ (record-of box line (pair-of count) ∷ [])) l
 adding-block box line count d r e f = added-block refl refl refl (added-exactly box line count d _ .0 (said-sound (added box line count d) d e f))
+
+-- ---- "Adding a record keeps both sums true.": those stored in a block of layout 1 are the sums of its records
+pub is-block-sums : {number layout : ℕ} {rs : List Record} {l : List ℕ} → Is-block number layout rs l → layout ≡ 1 → stored-sums l ≡ sum-of rs
+is-block-sums {number} {layout} {rs} b e =
+    ap (λ (l : List ℕ). stored-sums l) (b .is) ∙ block-stored number layout rs (b .few) (b .within) ∙ carried-sum layout rs e
+
+-- of blocks that calls made, and of what adding leaves of any bytes
+pub made-sums : {number : ℕ} {rs : List Record} {l : List ℕ} → Made number 1 rs l → stored-sums l ≡ sum-of rs
+made-sums m = is-block-sums (made-block m) refl
+
+pub adding-sums : {l : List ℕ} (box line : ℕ) (count : Interval) (d : List ℕ) (r : Verdict)
+    → stored (verdict-of r) l ≡ storing (added box line count d) d → verdict-of r ≡ sound → layout-of d ≡ 1
+    → stored-sums l ≡ sum-of (records d ++ (record-of box line (pair-of count) ∷ []))
+adding-sums box line count d r e f = is-block-sums (adding-block box line count d r e f)

@@ -5,7 +5,7 @@ use mathlib.Core.List.{List, [], _∷_, _++_, append-assoc, append-nil}
 use Prim.Native.Nat.{ℕ, suc, _+_, _-_, _*_, _/_, _%_, _≤_, _<_}
 use native.Mathlib.Omega.{arith}
 use lib.Dec.{eqb}
-use lib.ListN.{length, replicate, drop, set, length-append, length-replicate, replicate-append-replicate}
+use lib.ListN.{length, replicate, drop, set, length-append, replicate-append-replicate}
 use lib.Seq.{slice, take-at, drop-at}
 use borrow.Author.Tests.{eqb-true, eq-eqb, ne-eqb}
 use Rattle.decimal.specs.Place.{put}
@@ -15,7 +15,7 @@ use Rattle.directed.specs.Thousandths.{Pair}
 use Rattle.words.specs.Word.{word-bytes}
 use Rattle.words.specs.WordLaws.{Bytes}
 use Rattle.blocks.specs.Block.{Record, record-bytes, records-bytes, plus, header, sums-bytes, sums, contents, byte-sum, block, number-of, count-of, layout-of, records, stored-sums, all-within}
-use Rattle.blocks.specs.BlockLaws.{record-length, records-length, count-is, sums-carried, sums-length, sums-none, sums-other, carried-sum, carried-bounded, contents-length, block-layout, block-stored}
+use Rattle.blocks.specs.BlockLaws.{record-length, records-length, count-is, sums-carried, sums-length, sums-none, sums-other, carried-sum, carried-bounded, early, sealing, block-late, early-length, contents-length, block-layout, block-stored}
 use Rattle.blocks.specs.SumLaws.{Bounded, sum-snoc}
 use Rattle.blocks.specs.Causes.{Judged, accepted-judged}
 use Rattle.blocks.specs.Accepted.{accepted-block}
@@ -73,25 +73,16 @@ module _ (number layout : ℕ) (rs : List Record) (r : Record) (few : length rs 
   abbrev new : List Record
   new = rs ++ (r ∷ [])
 
-  -- bytes 0 to 483
-  early : List ℕ
-  early = header number (length rs) layout ++ (records-bytes rs ++ zeros (480 - 16 * length rs))
+  -- bytes 0 to 483, and the sum of bytes, as they are
+  abbrev front : List ℕ
+  front = early number layout rs
 
-  early-length : length early ≡ 484
-  unfolding early zeros
-  early-length = simp (length-append, length-replicate) (omega (arith, records-length rs))
-
-  -- the sum of bytes, as it is
-  sealing : List ℕ
-  sealing = word-bytes (byte-sum (contents number layout rs))
-
-  late : block number layout rs ≡ early ++ (sums layout rs ++ (zeros 8 ++ sealing))
-  unfolding block contents early zeros sealing
-  late = simp append-assoc
+  abbrev seal : List ℕ
+  seal = sealing number layout rs
 
   -- the sums of one record more
-  summed-up : raised (r .ends) (block number layout rs) ≡ early ++ (sums layout new ++ (zeros 8 ++ sealing))
-  unfolding raised
+  summed-up : raised (r .ends) (block number layout rs) ≡ front ++ (sums layout new ++ (zeros 8 ++ seal))
+  unfolding raised zeros
   summed-up = rw (block-layout number layout rs) (go (eqb layout 1) refl)
     where
       p : Pair
@@ -102,11 +93,11 @@ module _ (number layout : ℕ) (rs : List Record) (r : Record) (few : length rs 
           ap (λ q. sums-bytes (plus q (r .ends))) (block-stored number layout rs (omega arith) within ∙ carried-sum layout rs e)
           ∙ ap (λ (q : Pair). sums-bytes q) (sym (sum-snoc rs r) ∙ sym (carried-sum layout new e)) ∙ sym (sums-carried layout new)
 
-      go : (t : Bool) → eqb layout 1 ≡ t → (if t then put (sums-bytes p) 484 (block number layout rs) else block number layout rs) ≡ early ++ (sums layout new ++ (zeros 8 ++ sealing))
+      go : (t : Bool) → eqb layout 1 ≡ t → (if t then put (sums-bytes p) 484 (block number layout rs) else block number layout rs) ≡ front ++ (sums layout new ++ (zeros 8 ++ seal))
       go true e =
-          ap (put (sums-bytes p) 484) late ∙ put-over early (sums layout rs) (sums-bytes p) (zeros 8 ++ sealing) 484 early-length (sums-length layout rs)
-          ∙ ap (λ l. early ++ (l ++ (zeros 8 ++ sealing))) (sum-is (eqb-true _ _ e))
-      go false e = late ∙ ap (λ l. early ++ (l ++ (zeros 8 ++ sealing))) (sums-other layout rs e ∙ sym (sums-other layout new e))
+          ap (put (sums-bytes p) 484) (block-late number layout rs) ∙ put-over front (sums layout rs) (sums-bytes p) (zeros 8 ++ seal) 484 (early-length number layout rs (omega arith)) (sums-length layout rs)
+          ∙ ap (λ l. front ++ (l ++ (zeros 8 ++ seal))) (sum-is (eqb-true _ _ e))
+      go false e = block-late number layout rs ∙ ap (λ l. front ++ (l ++ (zeros 8 ++ seal))) (sums-other layout rs e ∙ sym (sums-other layout new e))
 
   more : length new ≡ suc (length rs)
   more = omega (arith, length-append rs (r ∷ []))
@@ -119,9 +110,9 @@ module _ (number layout : ℕ) (rs : List Record) (r : Record) (few : length rs 
       ∙ sym (replicate-append-replicate 16 (480 - 16 * suc (length rs)) 0)
 
   -- the block with the new count, where the record goes
-  counted : (T : List ℕ) → set (early ++ T) 2 (suc (length rs))
+  counted : (T : List ℕ) → set (front ++ T) 2 (suc (length rs))
       ≡ (header number (suc (length rs)) layout ++ records-bytes rs) ++ (zeros 16 ++ (zeros (480 - 16 * suc (length rs)) ++ T))
-  unfolding early
+  unfolding early zeros
   counted T = ap (λ l. header number (suc (length rs)) layout ++ ((records-bytes rs ++ l) ++ T)) unused ∙ simp append-assoc
 
   -- with the record there
@@ -135,9 +126,9 @@ module _ (number layout : ℕ) (rs : List Record) (r : Record) (few : length rs 
   unfolding zeros sealing
   appended =
       ap (λ l. sealed (put (record-bytes r) (4 + 16 * length rs) (set l 2 (suc (length rs))))) summed-up
-      ∙ ap (λ l. sealed (put (record-bytes r) (4 + 16 * length rs) l)) (counted (sums layout new ++ (zeros 8 ++ sealing)))
-      ∙ ap sealed (put-over (header number (suc (length rs)) layout ++ records-bytes rs) (zeros 16) (record-bytes r) _ (4 + 16 * length rs) (omega (arith, records-length rs)) (sym (record-length r)) ∙ placed sealing)
-      ∙ sealed-block number layout new sealing (omega (arith, more)) refl
+      ∙ ap (λ l. sealed (put (record-bytes r) (4 + 16 * length rs) l)) (counted (sums layout new ++ (zeros 8 ++ seal)))
+      ∙ ap sealed (put-over (header number (suc (length rs)) layout ++ records-bytes rs) (zeros 16) (record-bytes r) _ (4 + 16 * length rs) (omega (arith, records-length rs)) (sym (record-length r)) ∙ placed seal)
+      ∙ sealed-block number layout new seal (omega (arith, more)) refl
 
 -- the same of any bytes that are accepted; what stands where sums are stored is small
 pub accepted-stored : {first last : ℕ} (b : List ℕ) → Bytes b → Judged first last b sound → Bounded (length (records b)) (stored-sums b)

@@ -12,8 +12,7 @@ ghost use Rattle.decimal.specs.PlaceLaws.{Fitting};
 ghost use Rattle.directed.specs.Answer.{sound};
 ghost use Rattle.directed.specs.Lift.{pair-of};
 ghost use Rattle.directed.specs.Thousandths.{pair};
-ghost use Rattle.blocks.specs.Block.{record-of, record-bytes, sums-bytes, block, count-of, stored-sums, judgement};
-ghost use Rattle.blocks.specs.Causes.{extended};
+ghost use Rattle.blocks.specs.Block.{record-of, record-bytes, sums-bytes, block, count-of, stored-sums, judgement, extended};
 ghost use Rattle.blocks.specs.Stores.{sealed, raised};
 ghost use Rattle.blocks.specs.Sums.{total};
 
