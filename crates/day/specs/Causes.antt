@@ -126,7 +126,8 @@ filed-whole : {place : ℕ} {bs : List (List ℕ)} {rs : List Record} → Filed 
 filed-whole none = Whole.none
 filed-whole (next {place} {b} {rs = rs} {layout = layout} m f) = let i = made-block m in Whole.one (ap length (i .is) ∙ block-length place layout rs (i .few)) (filed-whole f)
 
--- "The sum printed equals the sum over the records", in a file that mixes both layouts
+-- the report over a file that mixes both layouts. `report` sums the records; that the stored sums which the program takes come to the same:
+-- Stream#filed-told
 pub filed-report : {bs : List (List ℕ)} {rs : List Record} → Filed 0 bs rs → length bs ≤ 100 → report (flatten bs) ≡ value (total-of rs)
 filed-report {bs} {rs} f h =
     reported-is (all-accepted {bs = bs} (rw (append-nil (flatten bs), append-nil bs) at (whole-cut (filed-whole f) Cut.none)) (filed-accepted f (omega arith)))

@@ -7,10 +7,12 @@ use native.Mathlib.Omega.{arith}
 use lib.ListN.{length, take, drop}
 use lib.Seq.{take-add, take-all, length-take-le}
 use Rattle.directed.specs.Result.{Result, value, refusal, after}
+use Rattle.blocks.specs.Block.{Record}
 use Rattle.day.specs.File.{blocks-of, all-records, Total, total-of, report, line}
 use Rattle.day.specs.FileLaws.{Cut, none, short, blocks-exactly, Whole, whole-cut, whole-snoc, flatten-snoc}
 use Rattle.day.specs.Tally.{Count, first, step, told}
 use Rattle.day.specs.TallyLaws.{steps, steps-refused, steps-append, tally-report}
+use Rattle.day.specs.Causes.{Filed, filed-report}
 
 -- The tally t and the bytes `held` of a block that is not whole yet, after some reads. Each read is put behind what is held; a block that is then whole
 -- is taken.
@@ -68,6 +70,12 @@ unfolding steps
 cut-anyhow {held = []} {rs = rs} l = sym (ap report (sym (append-nil (flatten rs))) ∙ go-on [] l none)
 cut-anyhow {held = b ∷ h} {rs = rs} l =
     sym (ap report (sym (append-nil (flatten rs))) ∙ go-on {cs = (b ∷ h) ∷ []} [] l (rw (append-nil (b ∷ h)) (short {b = b ∷ h} (omega arith) (led l .open-block))))
+
+-- "The sum printed equals the sum over the records": what the tally, which takes the stored sums where there are any, tells of a file of blocks that
+-- calls made, mixing both layouts, however it is cut into reads
+pub filed-told : {t : Result Count} {held : List ℕ} {reads bs : List (List ℕ)} {rs : List Record} → Led t held reads → flatten reads ≡ flatten bs
+    → Filed 0 bs rs → length bs ≤ 100 → told (closed t held) ≡ value (total-of rs)
+filed-told l e f h = cut-anyhow l ∙ ap report e ∙ filed-report f h
 
 -- whatever follows a block that is refused
 pub decided : {n place : ℕ} {held : List ℕ} {rs : List (List ℕ)} → Led (refusal n place) held rs → (u : List ℕ) → refusal n place ≡ report (flatten rs ++ u)
