@@ -12,7 +12,7 @@ module _ (m r : ℤ) where
   pub around-improper : (r <ℤ pos 0) ↔ ((m +ℤ r) <ℤ (m -ℤ r))
   around-improper = (λ h. omega (lin, sum m r, less m r), λ h. omega (lin, sum m r, less m r))
 
-  -- (−a′; a″), as ours has it: notes on the sources mend the misprint
+  -- (−a′; a″): 004 prints (a′; |a″|), a misprint (DECISIONS T12)
   pub around-negation : negation (around m r) ≡ around (negℤ m) r
   around-negation =
       let l : negℤ (m +ℤ r) ≡ negℤ m -ℤ r = omega (lin, minus (m +ℤ r), sum m r, minus m, less (negℤ m) r) in

@@ -24,7 +24,7 @@ use Rattle.decimal.specs.DigitLaws.{digit-not-below}
 use Rattle.text.specs.declared.Written.{Written}
 use Rattle.text.specs.declared.Written.the-variants.{Length}
 use Rattle.text.specs.EndLaws.{starts-cons, seven-places}
-use Rattle.text.specs.Text.{size-text, sign-text, end-text, framed}
+use Rattle.text.specs.Text.{size-text, sign-text, end-text, framed, longest}
 use Rattle.text.specs.TextLaws.{framed-length, framed-longest}
 use Rattle.text.specs.Spelling.{Mark}
 use Rattle.text.specs.Written.{Written-facts, end-value-small, written-split, end-written}
@@ -34,7 +34,7 @@ use Rattle.text.specs.FrontLaws.{behind-upper-at as behind-radius-at}
 use Rattle.text.specs.Answer.{told, writing}
 use Rattle.text.specs.WriteLaws.{judged-value-iff, judged-cause-iff, judged-3-iff, judged-refused, judged-is}
 use Rattle.text.specs.RoundTrip.{got-pair}
-use Rattle.office.specs.Spread.{around, half, centre, radius, odd, odd-sum, opening, semicolon, closing, parentheses, office-text, longest}
+use Rattle.office.specs.Spread.{around, half, centre, radius, odd, odd-sum, opening, semicolon, closing, parentheses, office-text}
 use Rattle.office.specs.SpreadLaws.{around-iff, around-centre, centre-small, radius-small}
 use Rattle.office.specs.Form.{form, value-of}
 use Rattle.office.specs.Answer.{read, parity, write}

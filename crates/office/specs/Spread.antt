@@ -46,7 +46,3 @@ parentheses = record { opening = opening; between = semicolon; closing = closing
 
 unfoldable pub office-text : Pair → List ℕ
 office-text a = framed parentheses (centre a) (radius a)
-
--- the longest text of a pair in range (RoundTrip#office-longest, office-longest-occurs)
-abbrev pub longest : ℕ
-longest = 27

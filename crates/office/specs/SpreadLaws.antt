@@ -64,22 +64,22 @@ around-centre a e =
     let u : x +ℤ y ≡ a .upper = omega (lin, sum x x, sum y y, sum x y, sum (a .lower) (a .upper), less (a .upper) (a .lower), ap up m, ap dn m, ap up r, ap dn r) in
     ap₂ pair l u
 
-around-sum : (m r : ℤ) → (m -ℤ r) +ℤ (m +ℤ r) ≡ m +ℤ m
-around-sum m r = omega (lin, sum (m -ℤ r) (m +ℤ r), less m r, sum m r, sum m m)
+around-twice-centre : (m r : ℤ) → (m -ℤ r) +ℤ (m +ℤ r) ≡ m +ℤ m
+around-twice-centre m r = omega (lin, sum (m -ℤ r) (m +ℤ r), less m r, sum m r, sum m m)
 
-around-difference : (m r : ℤ) → (m +ℤ r) -ℤ (m -ℤ r) ≡ r +ℤ r
-around-difference m r = omega (lin, less (m +ℤ r) (m -ℤ r), less m r, sum m r, sum r r)
+around-twice-radius : (m r : ℤ) → (m +ℤ r) -ℤ (m -ℤ r) ≡ r +ℤ r
+around-twice-radius m r = omega (lin, less (m +ℤ r) (m -ℤ r), less m r, sum m r, sum r r)
 
 pub around-even : (m r : ℤ) → odd-sum (around m r) ≡ false
-around-even m r = ap odd (around-sum m r) ∙ twice-even m
+around-even m r = ap odd (around-twice-centre m r) ∙ twice-even m
 
 pub centre-around : (m r : ℤ) → centre (around m r) ≡ m
 unfolding centre
-centre-around m r = ap half (around-sum m r) ∙ twice-half m
+centre-around m r = ap half (around-twice-centre m r) ∙ twice-half m
 
 pub radius-around : (m r : ℤ) → radius (around m r) ≡ r
 unfolding radius
-radius-around m r = ap half (around-difference m r) ∙ twice-half r
+radius-around m r = ap half (around-twice-radius m r) ∙ twice-half r
 
 -- m and r are those of a, exactly
 pub around-iff : (m r : ℤ) (a : Pair) → (around m r ≡ a) ↔ ((odd-sum a ≡ false) × (m ≡ centre a) × (r ≡ radius a))
