@@ -75,7 +75,7 @@ enum dzb_cause {
     DZB_MALFORMED_LINE = 12,     /* line over 96 bytes, or wrong count of fields */
     DZB_BLOCK_BOUNDS = 13,       /* a block's number above 99, bytes that are not 512, a block that holds 30 records */
     DZB_BLOCK_CHECKSUM = 14,     /* the sum of a block's bytes differs */
-    DZB_BLOCK_LAYOUT = 15,       /* another field of a block breaks the layout, or an end in it is beyond the range */
+    DZB_BLOCK_LAYOUT = 15,       /* another field of a block breaks the layout, or an end in it is beyond the range; begun with a layout that is neither 0 nor 1 */
     DZB_UNSOLVABLE = 16,         /* no pair of fractions solves the equation */
     DZB_SEVERAL_SOLUTIONS = 17,  /* more than one pair of fractions does */
     DZB_SHEET_BOUNDS = 18,       /* a sheet has more than 800 ends, or their number is not a multiple of four */
@@ -109,8 +109,8 @@ uint32_t dzb_product(int32_t a_lower, int32_t a_upper, int32_t b_lower, int32_t 
 /* a / b. Refused: 2, then 5 where b holds zero, then 4. */
 uint32_t dzb_quotient(int32_t a_lower, int32_t a_upper, int32_t b_lower, int32_t b_upper, bool inward, dzb_pair result);
 
-/* The x of a + c times x = b, if exactly one pair of fractions solves it, as where c holds no zero; mind the order of the arguments: a, c, b.
- * Refused: 2, then, only where c holds zero, 16 if none does or 17 if more than one does, then 4. */
+/* The x of a + c times x = b, if exactly one pair of fractions solves it, which is always so where c holds no zero; mind the order of the
+ * arguments: a, c, b. Refused: 2, then, only where c holds zero, 16 if none does or 17 if more than one does, then 4. */
 uint32_t dzb_equation(int32_t a_lower, int32_t a_upper, int32_t c_lower, int32_t c_upper, int32_t b_lower, int32_t b_upper, bool inward,
                       dzb_pair result);
 

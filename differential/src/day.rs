@@ -53,7 +53,15 @@ const OF_ADDING: [Mistake; 10] = [
     Mistake::OldSumsUnseen,
 ];
 
-const OF_REPORTS: [Mistake; 3] = [Mistake::PlacesFromOne, Mistake::OneBlockMore, Mistake::TotalHeldToRange];
+const OF_REPORTS: [Mistake; 7] = [
+    Mistake::SumsBeforeLayout,
+    Mistake::UpperSumUnseen,
+    Mistake::SumsTrusted,
+    Mistake::OldSumsUnseen,
+    Mistake::PlacesFromOne,
+    Mistake::OneBlockMore,
+    Mistake::TotalHeldToRange,
+];
 
 fn beyond(record: &Record) -> bool {
     [record.lower, record.upper].iter().any(|end| (*end as i64).abs() > GREATEST)

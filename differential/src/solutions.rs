@@ -10,7 +10,7 @@ use crate::paper::{Operation, Way};
 use std::collections::HashMap;
 
 const LARGEST: i64 = 4;
-/// Twelfths of a thousandth up to 8 thousandths: b − a reaches no further, and c's ends are at least 1.
+/// Twelfths of a thousandth up to 8 thousandths: b − a reaches no further, and the farther end of a c other than [0, 0] is at least 1.
 const TWELFTHS: i64 = 12 * 2 * LARGEST;
 /// Thousandths near every solution.
 const NEAR: i64 = 2 * LARGEST + 2;
