@@ -118,7 +118,7 @@ pub fn solution(a: Interval, c: Interval, b: Interval, rounding: Rounding) -> An
     solutions::solved_by(rounding, d.lower, d.upper, by, c.lower, c.upper)
 }
 
-// That over dual c, rounded and held to no range, by the kind that c carries; its dual, if zero-free, has it too.
+// b − dual a over dual c, rounded and held to no range, by the kind that c carries; its dual, if zero-free, has it too.
 pub fn count(a: Interval, c: Interval, b: Interval, rounding: Rounding) -> Unbounded
     ensures { λ r. ⌜ unbounded r ≡ count rounding a c b ⌝ }
 {

@@ -17,11 +17,12 @@ farther c = if leb (natAbs (c .lower)) (natAbs (c .upper)) then c .upper else c 
 abbrev pub nearer : Pair → ℤ
 nearer c = if leb (natAbs (c .lower)) (natAbs (c .upper)) then c .lower else c .upper
 
--- far and near are the sizes of c's ends, above and below how far d reaches beyond 0. Whatever x is, the ends of c × x are no more unlike than
--- those of c: else 16. If they are less unlike, c's farther end alone decides; if as unlike, an end of x may move: 17.
+-- p against q and r against s: less on one side is 16, equal on one side is 17
 unfoldable pub compared : ℕ → ℕ → ℕ → ℕ → Judgement
 compared p q r s = if ltb p q || ltb r s then cause 16 else (if leb p q || leb r s then cause 17 else sound)
 
+-- far and near are the sizes of c's ends, above and below how far d reaches beyond 0. Whatever x is, the ends of c × x are no more unlike than
+-- those of c: else 16. If they are less unlike, c's farther end alone decides; if as unlike, an end of x may move: 17.
 unfoldable pub weighed : ℕ → ℕ → ℕ → ℕ → Judgement
 weighed far near above below =
     if eqb far 0 then (if eqb (above + below) 0 then cause 17 else cause 16)
