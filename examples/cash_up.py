@@ -5,7 +5,7 @@
     ./report day.bin > report.out
     examples/cash_up.py slip.out report.out
 
-Status 1 if a weighing was refused or the two do not agree.
+Status 1 if a weighing was refused, there is no report, or the two do not agree.
 """
 from __future__ import annotations
 
@@ -47,9 +47,11 @@ def slip_answers(lines: Iterable[str]) -> tuple[list[Pair], list[Refusal]]:
     return counts, refusals
 
 
-def day_total(line: str) -> tuple[int, Pair] | Refusal:
-    """The report's line: `3 [1500.000,1500.000]`, records and their sum, or `R 14 0`, a refusal and the block."""
+def day_total(line: str) -> tuple[int, Pair] | Refusal | None:
+    """The report's line: `3 [1500.000,1500.000]`, records and their sum, or `R 14 0`, a refusal and the block. None if a report that failed left no line."""
     words = line.split()
+    if not words:
+        return None
     if words[0] == 'R':
         return Refusal(int(words[1]), int(words[2]))
     return int(words[0]), Pair.read(words[1])
@@ -63,6 +65,9 @@ def cash_up(slip_lines: Iterable[str], report_line: str) -> bool:
     for refusal in refusals:
         print('          line %d refused: R %d' % (refusal.place, refusal.number))
     day = day_total(report_line)
+    if day is None:
+        print('day file  no report')
+        return False
     if isinstance(day, Refusal):
         print('day file  block %d refused: R %d' % (day.place, day.number))
         return False
@@ -75,5 +80,8 @@ def cash_up(slip_lines: Iterable[str], report_line: str) -> bool:
 if __name__ == '__main__':
     if len(sys.argv) != 3:
         sys.exit('usage: cash_up.py SLIP-OUTPUT REPORT-OUTPUT')
-    with open(sys.argv[1]) as slip, open(sys.argv[2]) as report:
-        sys.exit(0 if cash_up(slip, report.read()) else 1)
+    try:
+        with open(sys.argv[1]) as slip, open(sys.argv[2]) as report:
+            sys.exit(0 if cash_up(slip, report.read()) else 1)
+    except OSError as error:
+        sys.exit('cash_up.py: %s: %s' % (error.filename, error.strerror))
