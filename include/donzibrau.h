@@ -24,7 +24,7 @@
 extern "C" {
 #endif
 
-/* The version, here and nowhere else: the commands, donzibrau.pc and the man pages take it from this line. CHANGES.md says what each one brought. */
+/* The version: the commands, donzibrau.pc and the man pages take it from this line; others are compared with it. CHANGES.md says what each brought. */
 #define DZB_VERSION "1.14.0"
 
 /* A pair: lower end, upper end. */
