@@ -3,6 +3,7 @@ use std::{env, path::Path, process::Command};
 
 fn main() {
     println!("cargo:rerun-if-env-changed=DONZIBRAU_LIB_DIR");
+    println!("cargo:rerun-if-env-changed=PKG_CONFIG_PATH");
     let checkout = Path::new(env!("CARGO_MANIFEST_DIR")).join("../../target/staticlib");
     if let Ok(folder) = env::var("DONZIBRAU_LIB_DIR") {
         link(&folder, "donzibrau");

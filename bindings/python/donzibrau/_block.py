@@ -4,7 +4,7 @@ from __future__ import annotations
 import ctypes
 import enum
 
-from ._library import judge, library
+from ._library import judge, library, unsigned
 from ._pair import Pair
 
 BYTES = 512
@@ -32,7 +32,7 @@ class Block:
 
     def __init__(self, number: int, layout: Layout = Layout.PLAIN) -> None:
         self._bytes = (ctypes.c_uint8 * BYTES)()
-        judge(library.dzb_begin_block(_word(number), layout.value, self._bytes, BYTES))
+        judge(library.dzb_begin_block(unsigned(number, 32), layout.value, self._bytes, BYTES))
 
     @staticmethod
     def of(data: bytes) -> Block:
@@ -43,14 +43,7 @@ class Block:
 
     def add(self, box: int, line: int, count: Pair) -> None:
         """Adds a record behind those there. Refused, with the block as it was: BLOCK_BOUNDS, BLOCK_CHECKSUM, BLOCK_LAYOUT, BLOCK_SUMS."""
-        judge(library.dzb_add_record(_word(box), _word(line), count.lower, count.upper, self._bytes, len(self._bytes)))
+        judge(library.dzb_add_record(unsigned(box, 32), unsigned(line, 32), count.lower, count.upper, self._bytes, len(self._bytes)))
 
     def __bytes__(self) -> bytes:
         return bytes(self._bytes)
-
-
-def _word(number: int) -> int:
-    """ctypes would cut a larger number to 32 bits."""
-    if not 0 <= number < 2**32:
-        raise ValueError('%d is not a number of 32 bits' % number)
-    return number

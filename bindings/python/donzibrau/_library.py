@@ -58,6 +58,19 @@ def load() -> ctypes.CDLL:
 library = load()
 
 
+def unsigned(number: int, bits: int) -> int:
+    """The number itself; ctypes would cut one that is larger or below zero.
+
+    >>> unsigned(2**32, 32)
+    Traceback (most recent call last):
+        ...
+    ValueError: 4294967296 is not a number of 32 bits
+    """
+    if not 0 <= number < 2**bits:
+        raise ValueError('%d is not a number of %d bits' % (number, bits))
+    return number
+
+
 def written(function: str, room: int, *arguments: object) -> bytes:
     """What a function writes to the front of a buffer of `room` bytes, which with their length are its last arguments."""
     buffer, length = (ctypes.c_uint8 * room)(), SIZE()

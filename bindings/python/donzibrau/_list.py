@@ -4,16 +4,30 @@ from __future__ import annotations
 import dataclasses
 from typing import Iterator, Sequence
 
-from ._library import ENDS, judge_list, library, written
+from ._library import ENDS, judge_list, library, unsigned, written
 from ._pair import Pair, Way
 
 
 @dataclasses.dataclass(frozen=True)
 class Limits:
-    """A caller's own limits: at most so many values wait at once, at most so many steps. Above 16 and 64 they count as those."""
+    """A caller's own limits: at most so many values wait at once, at most so many steps. Above 16 and 64 they count as those, and 0 is a limit too.
+
+    >>> Limits(values=-1, steps=20)
+    Traceback (most recent call last):
+        ...
+    ValueError: -1 is not a number of 64 bits
+    >>> Limits(values=6, steps=2**64)
+    Traceback (most recent call last):
+        ...
+    ValueError: 18446744073709551616 is not a number of 64 bits
+    """
 
     values: int
     steps: int
+
+    def __post_init__(self) -> None:
+        unsigned(self.values, 64)
+        unsigned(self.steps, 64)
 
 
 SLIP, FARE = Limits(values=16, steps=64), Limits(values=6, steps=20)
