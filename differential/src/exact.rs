@@ -56,7 +56,7 @@ impl Fraction {
     }
 
     /// The same fraction in its lowest terms.
-    fn reduced(self) -> Fraction {
+    pub fn reduced(self) -> Fraction {
         let (mut a, mut b) = (self.over.abs(), self.under);
         while b != 0 {
             (a, b) = (b, a % b);

@@ -28,6 +28,8 @@ fn is_multiple(d: Pair, p: Pair) -> bool {
 }
 
 fn of_proper(c: Pair, d: Pair) -> Solutions {
+    // In lowest terms, so that the cross products below fit 128 bits.
+    let (c, d) = (c.reduced(), d.reduced());
     let zero = Fraction::whole(0);
     // A zero-free x of sign +: its upper end times c; of sign −: its lower end times the exchanged c. The other end is free.
     if is_multiple(d, c) || is_multiple(d, c.negation()) {
@@ -44,7 +46,7 @@ fn of_proper(c: Pair, d: Pair) -> Solutions {
     // within d, and if there is a solution then these are one.
     let (alpha, beta) = (c.lower.negated(), c.upper);
     let (low, high) = (d.lower.negated(), d.upper);
-    let bound = |d: Fraction, by: Fraction| (by > zero).then(|| d.times(by.reciprocal()));
+    let bound = |d: Fraction, by: Fraction| (by > zero).then(|| d.times(by.reciprocal()).reduced());
     let least = |e: Option<Fraction>, f: Option<Fraction>| e.into_iter().chain(f).min().expect("an end that is not 0");
     let p = least(bound(low, beta), bound(high, alpha));
     let q = least(bound(low, alpha), bound(high, beta));

@@ -26,7 +26,7 @@ def cases(reference):
     old = reference.block_of(1, some(3))
     yield from ((COUNT, flipped(old, place)) for place in (484, 499, 500, 507))
     # sums of the records before the last; both sums exchanged; the layout told otherwise
-    yield COUNT, damaged(reference, three, 484, struct.pack('<qq', *reference.total([r for r in reference.block_records(three, [1])][:2])))
+    yield COUNT, damaged(reference, three, 484, struct.pack('<qq', *reference.sums_of([r for r in reference.block_records(three, [1])][:2])))
     yield COUNT, damaged(reference, three, 484, three[492:500] + three[484:492])
     yield from ((COUNT, damaged(reference, block, 3, bytes([layout]))) for block in (old, three) for layout in (0, 1, 2, 255))
     # 14 before 22, 15 before 22, 22 before 13 and before 2, 13 before 2
