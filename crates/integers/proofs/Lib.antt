@@ -1,0 +1,2 @@
+-- Laws on definitions that must-fail edits change.
+pub mod Floor
