@@ -1,4 +1,4 @@
-/* Directed intervals in thousandths, as document 01 defines them: C functions of the archive that `rt staticlib capi` writes.
+/* Directed intervals in thousandths, as document 01 defines them: C functions of the archive that `tools/build capi` writes.
  *
  * Each function takes any numbers and any bytes: there is nothing to test before a call. It returns 0 (DZB_DONE) and writes its result
  * to the places lent for it, or it returns a refusal number and writes nothing: every byte that is lent stays as it was.
