@@ -2,7 +2,8 @@
 use Rattle.std.specs.Prelude.{◌↔◌, ◌≡◌, refl, ℕ, ◌<◌, ◌/◌, ◌≤◌, suc, ◌*◌, ℤ, pos, negsuc, nat_abs, ◌+ℤ◌, ◌-ℤ◌, neg_ℤ, ◌*ℤ◌, ◌≤ℤ◌, ◌<ℤ◌}
 use Rattle.std.proofs.Common.{◌∙◌, ap, le-div_iff_mul-le, div-lt_iff_lt-mul, div-le_self, mul-pos, arith}
 use Rattle.std.specs.Int.Signed.{quot_z, mag, ≤ℤ_refl}
-use Rattle.integers.specs.Floor.{floor_nat, floor, ceiling, minus_one}
+use Rattle.integers.specs.Floor.{floor_nat, floor, ceiling}
+use Rattle.integers.specs.Complement.{minus_one}
 use Rattle.integers.specs.Laws.{neg_ℤ-*ℤ, ≤ℤ-antisym, *ℤ-mono, *ℤ-cancel_≤}
 use Rattle.integers.specs.Parts.{sum, minus, less, is_diff, diffs, lin}
 use Rattle.integers.specs.Sizes.{abs_neg}
