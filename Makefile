@@ -20,7 +20,7 @@ SHARED = target/lib/libdonzibrau.so
 PAGES = $(PROGRAMS:%=%.1) donzibrau.3
 OWN = $(LIBEXECDIR)/donzibrau
 
-SOURCES := $(shell find crates crates.txt -type f)
+SOURCES := $(shell find crates crates.txt -name out -prune -o -type f -print)
 # What goes to DOCDIR, in the places it has here, so that the links of the pages hold.
 DOCUMENTS := README.md CHANGES.md $(wildcard docs/*.md docs/*.svg) examples/weigh_box.c examples/bare.c examples/cash_up.py \
     $(shell find bindings -type f -not -path '*/__pycache__/*' -not -path '*/target/*')
@@ -28,16 +28,12 @@ DOCUMENTS := README.md CHANGES.md $(wildcard docs/*.md docs/*.svg) examples/weig
 .PHONY: all programs shared install uninstall check
 all: programs shared
 
-# `rt` itself sees what changed; an archive it makes anew each time, and so only where a source is newer. Without `rt` what is built stays.
+# tools/build sees what changed, and replaces only what then differs. Without `rt` what is built stays.
 programs:
-ifneq ($(shell command -v rt 2>/dev/null),)
-	rt check $(PROGRAMS)
-else
-	@for name in $(PROGRAMS); do [ -x target/bin/$$name ] || { echo "$$name is not built, and building it needs the Rattle toolchain (rt) on the path"; exit 1; }; done
-endif
+	tools/build $(PROGRAMS)
 
 $(ARCHIVE): $(SOURCES)
-	rt staticlib capi
+	tools/build capi
 
 # The archive's functions, and no other name of it, as a shared library.
 shared: $(SHARED)

@@ -1,4 +1,4 @@
-//! Links the archive that `rt staticlib capi` writes.
+//! Links the archive that `tools/build capi` puts there.
 use std::path::Path;
 
 fn main() {

@@ -13,7 +13,7 @@ results = []
 
 def build(name):
     """Proves and builds a program; where it lies."""
-    done = subprocess.run(['rt', 'check', name], cwd=ROOT, stdout=subprocess.PIPE, stderr=subprocess.STDOUT)
+    done = subprocess.run(['tools/build', name], cwd=ROOT, stdout=subprocess.PIPE, stderr=subprocess.STDOUT)
     if done.returncode:
         sys.exit(done.stdout.decode('utf-8', 'replace')[-2000:])
     return ROOT / 'target' / 'bin' / name
