@@ -1,10 +1,13 @@
 -- What the attributes of the functions name: laws of digits and places, with tests as premises.
 use Rattle.std.specs.Prelude.{◌≡◌, List, ℕ, ◌+◌, ◌-◌, ◌≤◌, ◌<◌, ◌^◌, length, max}
-use Rattle.std.proofs.Common.{sym}
+use Rattle.std.proofs.Common.{sym, le-leb}
+use Rattle.std.proofs.Math.Seq.{paste-zero}
+use Rattle.std.proofs.lemmas.Bool.{lt-leb}
+use Rattle.std.proofs.lemmas.List.Edits.{paste_more, paste_all}
 use Rattle.decimal.specs.Digits.{digits, width, decimal}
 use Rattle.decimal.specs.DigitLaws.{width_is, decimal-at, digits-length, width-split, width-le}
 use Rattle.decimal.specs.Place.{place, placement, put}
-use Rattle.decimal.specs.PlaceLaws.{put_byte, paste-zero, paste_more, paste_all}
+use Rattle.decimal.specs.PlaceLaws.{put_byte}
 
 -- ---- digits
 pub width_at : (n k : ℕ) → 1 ≤ k → n < 10 ^ k → 10 ^ (k - 1) ≤ max n 1 → width n ≡ k
