@@ -1,4 +1,4 @@
--- Bytes that lie from `,` to `]`: no space and no byte 10 is among them. Those of a pair do: proofs/Clean.antt.
+-- Bytes from `,` to `]`, as all of a pair's are: proofs/Clean.antt.
 use Rattle.std.specs.Prelude.{ℕ, ◌≤◌, List, [], ◌∷◌}
 
 abbrev pub Clean : List ℕ → Type 0

@@ -1,5 +1,4 @@
--- 02's Q-2: "each pair has one written text, that text reads back as the pair, and several other texts may read as it too". Which these are. That they
--- are these, and exactly when each refusal comes: proofs/RoundTrip.antt.
+-- Which texts are a pair's, with no mention of how they are read. That these read as it, and no others: proofs/RoundTrip.antt.
 use Rattle.std.specs.Prelude.{◌≡◌, ℕ, List, []}
 use Rattle.directed.specs.Thousandths.{Pair}
 use Rattle.text.specs.TextLaws.{Short}

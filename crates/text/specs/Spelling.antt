@@ -1,5 +1,5 @@
 -- 02's Q-2: "each pair has one written text, .. and several other texts may read as it too". Which they are: the end's text, or that text with
--- zeros at the end of its fraction left out, and the point with the last of them. That these read as it, and no others: proofs/Spelling.antt.
+-- zeros at the end of its fraction left out, and the point with the last of them.
 use Rattle.std.specs.Prelude.{◌≡◌, ℕ, zero, suc, ◌-◌, ◌/◌, ◌%◌, ◌≤◌, false, List, [], ◌∷◌, ◌++◌, length, ℤ, pos, int_lt, nat_eq, unsigned_abs}
 use Rattle.decimal.specs.Digits.{is_digit, digits, decimal}
 use Rattle.text.specs.Text.{point, sign_text}

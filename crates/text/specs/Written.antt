@@ -1,5 +1,4 @@
--- An end as 01 writes it, with "three digits" behind its point, at the front of a text: what the text is then, and what is read. That it is so:
--- proofs/WrittenEnd.antt.
+-- What a text is in whose front an end stands as 01 writes it, and what is read there. That it is so: proofs/WrittenEnd.antt.
 use Rattle.std.specs.Prelude.{◌≡◌, ℕ, ◌<◌, true, List, ◌++◌, drop, ℤ, unsigned_abs}
 use Rattle.text.specs.Text.{end_text}
 use Rattle.text.specs.EndLaws.{seven_places}
