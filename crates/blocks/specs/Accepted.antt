@@ -1,4 +1,4 @@
--- Which bytes are accepted: the block of a number, a layout and records that it can hold, byte for byte. That it is these: proofs/Accepted.antt.
+-- Which bytes are accepted as a block. That it is exactly these: proofs/Accepted.antt.
 use Rattle.std.specs.Prelude.{◌≡◌, true, List, ℕ, ◌≤◌, length}
 use Rattle.blocks.specs.Block.{Record, block, all_within}
 

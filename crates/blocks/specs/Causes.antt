@@ -1,5 +1,5 @@
--- What holds where each number comes, "exactly if its cause holds and no cause earlier in the order does", for a block: 13, 14, 15, 22; for beginning:
--- 13, 15; for adding: the block's, then 13, then 2. That the definitions give these: proofs/Causes.antt.
+-- What holds where each number comes: of a block 13, 14, 15, 22; of beginning 13, 15; of adding the block's, then 13, then 2. That each comes exactly
+-- there: proofs/Causes.antt.
 use Rattle.std.specs.Prelude.{◌≡◌, true, false, List, [], ℕ, ◌+◌, ◌*◌, ◌≤◌, ◌<◌, length}
 use Rattle.std.proofs.Math.Seq.{slice}
 use Rattle.directed.specs.declared.Interval.{Interval}
