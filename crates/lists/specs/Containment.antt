@@ -1,5 +1,4 @@
--- "The outward value then contains the exact value of the list ..; the inward value lies in it.", for lists whose exact evaluation meets no divisor
--- that holds zero.
+-- What is said of an accepted list: "The outward value then contains the exact value of the list ..; the inward value lies in it."
 use Rattle.std.specs.Prelude.{◌≡◌, List, [], ℕ}
 use Rattle.directed.specs.declared.Rounding.{Rounding}
 use Rattle.directed.specs.Thousandths.{Pair, exact}
