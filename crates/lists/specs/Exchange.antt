@@ -1,7 +1,7 @@
 -- Exchange of ends: the list with the ends of every constant exchanged and meet put for join and join for meet, and the answer that it has then.
 use Rattle.std.specs.Prelude.{List, [], ◌∷◌, ℕ, zero, suc, eqb, if◌then◌else◌}
 use Rattle.directed.specs.Thousandths.{Pair, dual}
-use Rattle.lists.specs.Lists.{Result, value, refusal}
+use Rattle.lists.specs.Lists.{Located, value, refusal}
 
 -- ---- the list that is meant: at a code, or at the bytes of a constant
 pub data Place : Type 0 where
@@ -28,6 +28,6 @@ abbrev pub exchange : List ℕ → List ℕ
 exchange s = exchange_from at_code s
 
 -- ---- the answer that is meant
-abbrev pub exchanged : Result Pair → Result Pair
+abbrev pub exchanged : Located Pair → Located Pair
 exchanged (value a) = value (dual a)
 exchanged (refusal n k) = refusal n k

@@ -9,7 +9,7 @@ use Rattle.directed.specs.Operations as operations
 use Rattle.directed.specs.Thousandths as thousandths
 use Rattle.directed.specs.Thousandths.{Pair, exact, beyond_range, rounded, under}
 use Rattle.directed.specs.Answer.{sound, cause, stop}
-use Rattle.lists.specs.Lists.{Result, value, refusal, after, Expression, one, two, evaluated}
+use Rattle.lists.specs.Lists.{Located, value, refusal, after, Expression, one, two, evaluated}
 use Rattle.lists.specs.Endings.{Ending}
 use Rattle.lists.specs.Ways.{Wanted}
 
@@ -36,6 +36,6 @@ pub data Refusal (v steps : ℕ) (w : Rounding) (s : List ℕ) : ℕ → ℕ →
   evaluating : {n k : ℕ} {t : Expression} → Ending v steps s (value t) → Blame w t n k → Refusal v steps w s n k
 
 -- ---- the earliest step whose value, in the way in which it is wanted, is refused decides; else the last step's value is the answer
-unfoldable pub earliest : List Wanted → Result Pair → Result Pair
+unfoldable pub earliest : List Wanted → Located Pair → Located Pair
 earliest [] last = last
 earliest (x ∷ xs) last = after (evaluated x.way x.expression) λ p. earliest xs last
