@@ -1,0 +1,2 @@
+-- How far the input is read.
+pub mod Reading

@@ -1,0 +1,56 @@
+-- How far the input is read: what was read is whole blocks, and the tally is theirs. r are the bytes of the input, r' those that are left.
+use Rattle.std.specs.Prelude.{◌≡◌, ℕ, ◌+◌, ◌≤◌, ◌<◌, Option, None, Some, IfSome, Result, Ok, Err, OnOk}
+use Rattle.std.specs.Io.KnownBytes.{Appends, Consumes, IsAtEnd}
+use Rattle.std.proofs.Common.{sym, ap, subst, ◌∙◌, arith}
+use Rattle.std.proofs.KnownBytes.{Consumes-nil, Consumes-trans, Consumes-whole}
+use mathlib.Core.List.{List, [], ◌∷◌, ◌++◌, flatten}
+use Rattle.std.proofs.Math.ListN.{length, take, drop}
+use Rattle.std.proofs.Math.Seq.{take-add, take_all}
+use Rattle.directed.specs.Located.{Located, refusal}
+use Rattle.day.specs.File.{Total, report, line}
+use Rattle.day.specs.FileLaws.{flatten-snoc}
+use Rattle.day.specs.Tally.{Count, first, step, told}
+use Rattle.day.specs.Stream.{Led, start, part, block, closed, cut_anyhow, decided}
+
+pub record Read (r r' : Option (List ℕ)) (t : Located Count) : Type 0 where
+  pub reads : List (List ℕ)
+  pub way : Led t [] reads
+  pub consumed : Consumes r r' (flatten reads)
+
+pub read-none : (r : Option (List ℕ)) → Read r r first
+unfolding flatten
+read-none r = record { reads = []; way = start; consumed = Consumes-nil r }
+
+-- n bytes more, behind those that are held
+pub behind : (r r' r'' : Option (List ℕ)) (held n : ℕ) (old new : List ℕ) → Consumes r r' (take held old) → take held new ≡ take held old
+    → Consumes r' r'' (take n (drop held new)) → Consumes r r'' (take (held + n) new)
+behind r r' r'' held n old new c e d = rw (take-add held n new) (Consumes-trans r r' r'' _ _ (rw (sym e) at c) d)
+
+-- b more
+more : (r r' r'' : Option (List ℕ)) (reads : List (List ℕ)) (b : List ℕ) → Consumes r r' (flatten reads) → Consumes r' r'' b → Consumes r r'' (flatten (reads ++ (b ∷ [])))
+more r r' r'' reads b c d = subst (Consumes r r'') (sym (flatten-snoc reads b)) (Consumes-trans r r' r'' (flatten reads) b c d)
+
+pub read-block : {r r' : Option (List ℕ)} (r'' : Option (List ℕ)) {t u : Located Count} (n : ℕ) (b : List ℕ) → Read r r' t → length b ≡ 512 → 512 ≤ n
+    → Consumes r' r'' (take n b) → u ≡ step t b → Read r r'' u
+read-block r'' n b s e h c f = rw f (record { reads = s.reads ++ (b ∷ []); way = block b s.way e; consumed = more _ _ _ s.reads b s.consumed (rw (take_all n b (omega arith)) at c) })
+
+-- a short block, or none, at the end
+pub read-end : {r r' : Option (List ℕ)} (r'' : Option (List ℕ)) {t : Located Count} (b : List ℕ) → Read r r' t → length b < 512 → Consumes r' r'' b → IsAtEnd r''
+    → IfSome r (λ s. told (closed t b) ≡ report s)
+read-end {r} r'' b s h c e = Consumes-whole r r'' _ (λ l. told (closed _ b) ≡ report l) (more _ _ _ s.reads b s.consumed c) e (cut_anyhow (part b s.way h))
+
+-- whatever is left
+whatever : (r r' : Option (List ℕ)) (s : List ℕ) (P : List ℕ → Type 0) → Consumes r r' s → ((u : List ℕ) → P (s ++ u)) → IfSome r P
+whatever None r' s P c f = tt
+whatever (Some x) None s P c f = absurd c
+whatever (Some x) (Some y) s P c f = subst P (sym c) (f y)
+
+pub read-refused : {r r' : Option (List ℕ)} {n place : ℕ} → Read r r' (refusal n place) → IfSome r (λ s. refusal n place ≡ report s)
+read-refused {r} {r'} s = whatever r r' (flatten s.reads) _ s.consumed (decided s.way)
+
+-- the line of what is told is that of the report
+pub written : {E : Type 0} (r : Result (Unit {0}) E) (known a b : Option (List ℕ)) (t : Located Total) (l : List ℕ) → OnOk r (Appends a b l) → l ≡ line t
+    → IfSome known (λ s. t ≡ report s) → OnOk r (IfSome known (λ s. Appends a b (line (report s))))
+written (Err e) known a b t l p q h = tt
+written (Ok u) None a b t l p q h = tt
+written (Ok u) (Some s) a b t l p q h = subst (Appends a b) (q ∙ ap line h) p
