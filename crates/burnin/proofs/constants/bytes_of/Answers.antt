@@ -1,5 +1,5 @@
 -- Lower, then upper.
-use Rattle.std.proofs.Common.{rules, ◌≡◌, ap, refl, w32, to_z, of_z}
+use Rattle.std.proofs.Common.{rules, ◌≡◌, refl, w32, to_z, of_z}
 use Rattle.words.specs.Word.{signed_bytes}
 use Rattle.burnin.specs.Stages.{both_placed}
 use Rattle.burnin.proofs.constants.bytes_of.Goals as goal

@@ -1,5 +1,4 @@
 -- A step with its constant, any other, and the end.
-use Rattle.std.proofs.Common.{arith}
 use Rattle.burnin.specs.Lists.{filling_code, filling_constant, filling_end}
 use Rattle.burnin.proofs.runs.expanded.Goals as goal
 
