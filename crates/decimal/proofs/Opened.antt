@@ -41,7 +41,11 @@ beyond_width n k o h = lt-leb (width n) k (go (dec_lt k (width n)))
         let e : 10 ^ width n ≤ 10 ^ k = pow-le-pow_right (omega arith) (omega arith) in
         absurd (omega (arith, (has_width n).enough, one_more k o))
 
-pub ruleset enough = (within_width, beyond_width)
+-- ten times an entry of the table is a number of 32 bits
+pub table_tens : (k : ℕ) → k < 7 → 10 ^ k ≤ 1000000
+table_tens k h = pow-le-pow_right (omega arith) {i = k} {j = 6} (omega arith)
+
+pub ruleset enough = (within_width, beyond_width, table_tens)
 
 pub ruleset all_digits = (decimal-at)
 
