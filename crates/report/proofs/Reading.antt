@@ -21,11 +21,6 @@ pub read-none : (r : Option (List ℕ)) → Read r r first
 unfolding flatten
 read-none r = record { reads = []; way = start; consumed = Consumes-nil r }
 
--- n bytes more, behind those that are held
-pub behind : (r r' r'' : Option (List ℕ)) (held n : ℕ) (old new : List ℕ) → Consumes r r' (take held old) → take held new ≡ take held old
-    → Consumes r' r'' (take n (drop held new)) → Consumes r r'' (take (held + n) new)
-behind r r' r'' held n old new c e d = rw (take-add held n new) (Consumes-trans r r' r'' _ _ (rw (sym e) at c) d)
-
 -- b more
 more : (r r' r'' : Option (List ℕ)) (reads : List (List ℕ)) (b : List ℕ) → Consumes r r' (flatten reads) → Consumes r' r'' b → Consumes r r'' (flatten (reads ++ (b ∷ [])))
 more r r' r'' reads b c d = subst (Consumes r r'') (sym (flatten-snoc reads b)) (Consumes-trans r r' r'' (flatten reads) b c d)
