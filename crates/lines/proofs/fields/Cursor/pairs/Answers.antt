@@ -1,12 +1,9 @@
 -- One turn each: a pair is read, and more follow, or none; or a field is refused.
 use Rattle.lines.specs.Cut.{end_last, scan_forward}
-use Rattle.lines.proofs.RestLaws.{counted-12, answers_as, answers_12, answers_limited, reading_first, turn_refused, turn_many, turn_few, turn_last, turn_next, wants_most}
+use Rattle.lines.proofs.RestLaws.{counted-12, answers_as, answers_12, answers_limited, turn_refused, turn_many, turn_few, turn_last, turn_next, wants_most}
 use Rattle.directed.specs.Answer.{built}
-use Rattle.std.proofs.Common.{sym, ap, ◌∙◌, arith, refl, length-set}
+use Rattle.std.proofs.Common.{sym, ap, ◌∙◌, arith, length-set}
 use Rattle.lines.proofs.fields.Cursor.pairs.Goals as goal
-
-pub loop-i-init : goal.loop-i-init
-loop-i-init c = (refl, refl, c.args.self.now.behind, refl, reading_first _ _ _ _ _)
 
 pub returns-then-i-wanted : goal.returns-then-i-wanted
 returns-then-i-wanted c =
@@ -16,12 +13,6 @@ returns-then-i-wanted c =
     let last = rw q.0 at c.if-is_last.true in
     answers_12 (q.0 ∙ sym (end_last _ _ here last) ∙ k.4.same_end) c.malformed.ensures (turn_few k.4 here last (λ z. c.if-i-wanted.true (z ∙ sym c.wants-wanted.ensures)))
 
-pub limited-requires : goal.limited-requires
-limited-requires c =
-    let k = c.loop-i.invariant in
-    let q = rw k.0 at c.in-Ok.ensures in
-    omega (arith, k.2, q.0, scan_forward c.args.self.now.s.now c.loop-i.here.at)
-
 pub returns-then-is_last : goal.returns-then-is_last
 returns-then-is_last c =
     let k = c.loop-i.invariant in
@@ -30,9 +21,6 @@ returns-then-is_last c =
     let last = rw q.0 at c.if-is_last.true in
     answers_limited (q.0 ∙ sym (end_last _ _ here last) ∙ k.4.same_end) c.limited.ensures
     (ap built (turn_last k.4 here _ q.2 (omega (arith, k.3, c.wants-wanted.ensures, wants_most c.args.operation)) _ last (c.if-i-wanted.false ∙ c.wants-wanted.ensures)) ∙ sym c.apply-answer.ensures)
-
-pub moved-here-requires-clause-behind : goal.moved-here-requires-clause-behind
-moved-here-requires-clause-behind c = omega (arith, c.in-Ok.ensures.0, scan_forward c.loop-i.here.s.now c.loop-i.here.at)
 
 pub returns-in-Err : goal.returns-in-Err
 returns-in-Err c =
