@@ -1,5 +1,5 @@
 -- Laws that no proof cites any more, and that stand.
-use Rattle.std.specs.Prelude.{◌≡◌, refl, Bool, true, false, cond, not, Result, Ok, Err, List, [], ◌∷◌, ◌++◌, map, ℕ, zero, suc, ◌+◌, ◌-◌, ◌*◌, ◌≤◌, ◌<◌, ℤ, eqb, leb, length, take, drop, get_or, slice_get, unwrap_or, if◌then◌else◌}
+use Rattle.std.specs.Prelude.{◌≡◌, refl, Bool, true, false, cond, not, Result, Ok, Err, List, [], ◌∷◌, ◌++◌, map, ℕ, zero, suc, ◌+◌, ◌-◌, ◌*◌, ◌≤◌, ◌<◌, ℤ, eqb, leb, length, take, drop, get_or, if◌then◌else◌}
 use Rattle.std.proofs.Common.{sym, ap, ap₂, ◌∙◌, le-leb, leb-true, leb-false, drop-drop, arith, add-zero, true≢false, append_assoc, length-append, length-drop, drop-cons, drop_of_length-le, length-take-le, take_at, eq-eqb, ne_eqb, eqb-true}
 use Rattle.std.proofs.lemmas.Bool.{false≢true, eqb-false, lt-leb}
 use Rattle.std.proofs.lemmas.List.{append-nil}
