@@ -7,8 +7,8 @@ use Rattle.report.proofs.tell.Goals as goal
 pub slice_bounds-line-end : goal.slice_bounds-line-end
 slice_bounds-line-end g c = wrote_within (placed_fitting c.put_line-n.ensures.placed (omega (arith, c.put_line-n.ensures.bounded)))
 
-pub slice_bounds-write_all-end : goal.slice_bounds-write_all-end
-slice_bounds-write_all-end g c =
+pub slice_bounds-text-end : goal.slice_bounds-text-end
+slice_bounds-text-end g c =
     sym (length-take-le _ _ (wrote_within (placed_fitting c.put_line-n.ensures.placed (omega (arith, c.put_line-n.ensures.bounded)))))
 
 pub returns-clause-written : goal.returns-clause-written
