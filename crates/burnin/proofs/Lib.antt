@@ -1,0 +1,2 @@
+-- Laws that no proof cites any more, and that stand.
+pub mod Kept

@@ -1,0 +1,166 @@
+-- Laws that no proof cites any more, and that stand.
+use Rattle.std.specs.Prelude.{◌≡◌, refl, Bool, true, false, List, [], ◌∷◌, ◌++◌, ℕ, suc, ◌+◌, ◌-◌, ◌≤◌, ◌<◌, ◌↔◌, ltb, leb, length, take, drop, get_or}
+use Rattle.std.proofs.Common.{sym, ap, ◌∙◌, arith, true≢false, ltb-true, ltb-false, take_at, le-leb}
+use Rattle.decimal.specs.Place.{Placed}
+use Rattle.decimal.specs.PlaceLaws.{placed_fitting, put_front}
+use Rattle.series.specs.Steps.{Known, constant, code, takes, after, Formed, Lower, here, there, bytes_of}
+use Rattle.series.specs.Bytes.{Heads, NoHead, as_constant, as_code, first_same}
+use Rattle.series.specs.Nearest.{Fits, Found, NoneFits, Least, Next, Top, known_below, first_fits, equally, takes_0_to_3, takes_4_to_6, takes_7_to_9, takes_10_to_12, takes_beyond, none_risen, advanced}
+use Rattle.series.specs.Nearest as nearest
+use Rattle.series.specs.Series.{found, listed, effect, effect_of}
+
+-- ---- the table of the steps
+pub constant_takes : (d : ℕ) → d < 4 → takes d ≡ 0
+constant_takes d h = takes_0_to_3 d (omega arith)
+
+module _ (d : ℕ) where
+  pub takes-constant : d < 4 → 0 ≡ takes d
+  takes-constant h = sym (takes_0_to_3 d (omega arith))
+
+  pub takes_low : 4 ≤ d → d < 7 → 2 ≡ takes d
+  takes_low h i = sym (takes_4_to_6 d h (omega arith))
+
+  pub takes-middle : 7 ≤ d → d < 10 → 1 ≡ takes d
+  takes-middle h i = sym (takes_7_to_9 d h (omega arith))
+
+  pub takes-high : 10 ≤ d → d < 13 → 2 ≡ takes d
+  takes-high h i = sym (takes_10_to_12 d h (omega arith))
+
+  pub takes-beyond : 13 ≤ d → 0 ≡ takes d
+  takes-beyond h = sym (takes_beyond d h)
+
+pub no_constant : (k d : ℕ) → k ≤ d → d < 4 → Known k d → ⊥
+no_constant k d h l (constant a) = omega arith
+no_constant k d h l (code a b) = omega arith
+
+-- ---- what a test tells
+pub record Decides (r : Bool) (P : Type 0) : Type 0 where
+  pub yes_if : r ≡ true → P
+  pub not_if : r ≡ false → P → ⊥
+
+pub refused : (P : Type 0) → (P → ⊥) → Decides false P
+refused P n = record { yes_if = λ e. let z : ◌≡◌ {A = ℕ} 0 1 = cc in absurd (omega arith); not_if = λ e. n }
+
+pub decides : {r : Bool} {P : Type 0} → (r ≡ true) ↔ P → Decides r P
+decides w = record { yes_if = w.0; not_if = λ e p. true≢false (sym (w.1 p) ∙ e) }
+
+pub tested : (k w r d : ℕ) → Known k d → takes d ≤ w → Decides (leb (w - takes d) r) (Fits k w r d)
+tested k w r d u t = decides (nearest.tested k w r d (takes d) refl u t)
+
+pub one_more : (P : ℕ → Type 0) (a d : ℕ) → ((f : ℕ) → a ≤ f → f < d → P f → ⊥) → (P d → ⊥) → (f : ℕ) → a ≤ f → f < d + 1 → P f → ⊥
+one_more P a d h n f i j p = go (ltb f d) refl
+  where
+    go : (b : Bool) → ltb f d ≡ b → ⊥
+    go true e = h f i (ltb-true f d e) p
+    go false e = let q : f ≡ d = omega (arith, ltb-false f d e) in n (rw q at p)
+
+-- ---- the lowest list, the next and the last, by the first step that fits
+pub top_none : (k w : ℕ) → Top k w []
+top_none k w = record { none = go }
+  where
+    go : (fs : List ℕ) → Formed k w fs → Lower [] fs → ⊥
+    go [] g l = elim l [ ]
+    go (f ∷ fs) g l = elim l [ ]
+
+pub least_none : (k : ℕ) → Least k 1 0 []
+least_none k = record { formed = refl; long = refl; least = go }
+  where
+    go : (fs : List ℕ) → Formed k 1 fs → Lower fs [] → ⊥
+    go [] g l = elim l [ ]
+    go (f ∷ fs) g l = elim l [ ]
+
+pub least_more : (k w r d : ℕ) (ds : List ℕ) → Found k w r 0 d → Least k (after w d) r ds → Least k w (suc r) (d ∷ ds)
+least_more k w r d ds f l =
+    let i = f.fits in
+    record { formed = (i.known, i.enough, l.formed); long = ap suc l.long; least = go }
+  where
+    go : (fs : List ℕ) → Formed k w fs → Lower fs (d ∷ ds) → ⊥
+    go [] g l = elim l [ ]
+    go (b ∷ fs) g (here p q) = f.first b (omega arith) p (rw (← l.long, ← q) (first_fits k w b fs g))
+    go (b ∷ fs) g (there p q) = l.least fs (rw p at g.2) q
+
+module _ (k w d : ℕ) (ds : List ℕ) where
+  pub next_found : (e : ℕ) (es : List ℕ) → Top k (after w d) ds → Found k w (length ds) (d + 1) e → Least k (after w e) (length ds) es → Next k w (d ∷ ds) (e ∷ es)
+  next_found e es t f l =
+      let i = f.fits in
+      let m : d < e = omega (arith, f.from) in
+      record { formed = (i.known, i.enough, l.formed); higher = here m (sym l.long); nearest = go }
+    where
+      go : (fs : List ℕ) → Formed k w fs → Lower (d ∷ ds) fs → Lower fs (e ∷ es) → ⊥
+      go [] g l z = elim l [ ]
+      go (b ∷ fs) g (here p q) (here p' q') = f.first b (omega arith) p' (rw q (first_fits k w b fs g))
+      go (b ∷ fs) g (here p q) (there p' q') = l.least fs (rw p' at g.2) q'
+      go (b ∷ fs) g (there p q) z = t.none fs (rw (← p) at g.2) q
+
+  pub top_found : k ≤ 4 → Top k (after w d) ds → NoneFits k w (length ds) (d + 1) → Top k w (d ∷ ds)
+  top_found m t n = advanced k w d (length ds + 1) ds [] false refl t (none_risen k w (d + 1) (length ds) (length ds + 1) m refl n)
+
+-- ---- what a step leaves at the front of its bytes
+pub data Front (k d x : ℕ) (b : List ℕ) : Type 0 where
+  at_constant : d < k → x ≡ 0 → (c : List ℕ) → b ≡ d ∷ c → Front k d x b
+  at_code : 4 ≤ d → d < 13 → x ≡ d - 3 → Front k d x b
+
+pub front : (k d x : ℕ) (b c : List ℕ) → k ≤ 4 → Known k d → bytes_of d ++ c ≡ x ∷ b → Front k d x b
+front k d x b c m (constant a) e =
+    let q : 0 ∷ d ∷ c ≡ x ∷ b = rw (as_constant d (omega arith)) at e in
+    let o : x ≡ 0 = cc in
+    let r : b ≡ d ∷ c = cc in
+    at_constant a o c r
+front k d x b c m (code a z) e =
+    let q : (d - 3) ∷ c ≡ x ∷ b = rw (as_code d a) at e in
+    let o : x ≡ d - 3 = cc in
+    at_code a z o
+
+pub none-there : (k x : ℕ) (b : List ℕ) → k ≤ 4 → ((d : ℕ) → Front k d x b → ⊥) → NoHead k (x ∷ b)
+none-there k x b m n = record { none = λ d c u e. n d (front k d x b c m u e) }
+
+module _ (k : ℕ) (m : k ≤ 4) where
+  -- no other step stands there
+  pub heads_only : (b : List ℕ) (r : ℕ) (t : List ℕ) → Heads k b r t → (d : ℕ) (c : List ℕ) → Known k d → bytes_of d ++ c ≡ b → d ≡ r
+  heads_only b r t h d c u e = (first_same k d r c t m u h.known (e ∙ h.stands)).0
+
+  pub heads_short : (l : List ℕ) → 1 ≤ length l → get_or l 0 0 ≡ 0 → length l < 2 → NoHead k l
+  heads_short [] h z i = absurd (omega arith)
+  heads_short (x ∷ y ∷ b) h z i = absurd (omega arith)
+  heads_short (x ∷ []) h z i = none-there k x [] m go
+    where
+      go : (d : ℕ) → Front k d x [] → ⊥
+      go d (at_constant a o c e) = omega (arith, ap length e)
+      go d (at_code a b o) = omega arith
+
+  pub heads_constant : (l : List ℕ) → 2 ≤ length l → get_or l 0 0 ≡ 0 → get_or l 1 0 < k → Heads k l (get_or l 1 0) (drop 2 l)
+  heads_constant [] h z i = absurd (omega arith)
+  heads_constant (x ∷ []) h z i = absurd (omega arith)
+  heads_constant (x ∷ p ∷ b) h z i = record { known = constant i; stands = rw (as_constant p (omega arith), z) }
+
+  pub heads_beyond : (l : List ℕ) → 2 ≤ length l → get_or l 0 0 ≡ 0 → k ≤ get_or l 1 0 → NoHead k l
+  heads_beyond [] h z i = absurd (omega arith)
+  heads_beyond (x ∷ []) h z i = absurd (omega arith)
+  heads_beyond (x ∷ p ∷ b) h z i = none-there k x (p ∷ b) m go
+    where
+      go : (d : ℕ) → Front k d x (p ∷ b) → ⊥
+      go d (at_constant a o c e) = let q : p ≡ d = cc in omega arith
+      go d (at_code a b o) = omega arith
+
+  pub heads_code : (l : List ℕ) → 1 ≤ length l → (get_or l 0 0 ≡ 0 → ⊥) → get_or l 0 0 < 10 → Heads k l (get_or l 0 0 + 3) (drop 1 l)
+  heads_code [] h z i = absurd (omega arith)
+  heads_code (x ∷ b) h z i = record {
+    known = code (omega (arith, z)) (omega arith);
+    stands = let e : x + 3 - 3 ≡ x = omega arith in rw (as_code (x + 3) (omega (arith, z)), e);
+  }
+
+  pub heads_none : (l : List ℕ) → 1 ≤ length l → 10 ≤ get_or l 0 0 → NoHead k l
+  heads_none [] h i = absurd (omega arith)
+  heads_none (x ∷ b) h i = none-there k x b m go
+    where
+      go : (d : ℕ) → Front k d x b → ⊥
+      go d (at_constant a o c e) = omega arith
+      go d (at_code a b o) = omega arith
+
+-- the bytes t that stand at the front of a buffer of zeros go to the front of d
+pub put_room : (t d z : List ℕ) {n i : ℕ} {l : List ℕ} → n ≡ length t → n ≤ length d → Placed (take n (t ++ z)) 0 d i l → effect (listed n) l ≡ effect_of (found t) d
+unfolding effect_of
+put_room t d z {l = l} e h p =
+    let u : take (length t) (t ++ z) ≡ t = take_at t z (length t) refl in
+    let w : Placed t 0 d _ l = rw (e, u) at p in
+    rw (e, le-leb (length t) (length d) (rw e at h), (placed_fitting w (omega arith)).buffer_is ∙ put_front t d)
