@@ -9,12 +9,12 @@ loop-init g c = rw c.new-tally.ensures (read-none _)
 pub returns-then-n-lt512 : goal.returns-then-n-lt512
 returns-then-n-lt512 g c =
     rw c.close.ensures
-    (read-end _ (take c.in_ok-n.n c.fill.new.buffer) c.loop.invariant (simp length-take (omega arith)) c.in_ok-n.ensures.consumed (c.in_ok-n.ensures.ended (omega arith)))
+    (read-end _ _ c.loop.invariant (simp length-take (omega arith)) c.in_ok-n.ensures.consumed (c.in_ok-n.ensures.ended (omega arith)))
 
 pub returns-in-Err : goal.returns-in-Err
 returns-in-Err g c =
-    read-refused (read-block _ c.in_ok-n.n c.fill.new.buffer c.loop.invariant c.if-n-lt512.array_long c.if-n-lt512.false c.in_ok-n.ensures.consumed c.in-Err.ensures)
+    read-refused (read-block _ c.in_ok-n.n _ c.loop.invariant c.if-n-lt512.array_long c.if-n-lt512.false c.in_ok-n.ensures.consumed c.in-Err.ensures)
 
 pub loop-preserved : goal.loop-preserved
 loop-preserved g c =
-    read-block _ c.in_ok-n.n c.fill.new.buffer c.loop.invariant c.if-n-lt512.array_long c.if-n-lt512.false c.in_ok-n.ensures.consumed c.in-Ok.ensures
+    read-block _ c.in_ok-n.n _ c.loop.invariant c.if-n-lt512.array_long c.if-n-lt512.false c.in_ok-n.ensures.consumed c.in-Ok.ensures
