@@ -61,6 +61,11 @@ impl<'a> Question<'a> {
         }
     }
 
+    // The letter at a place of the line, or a space behind its end.
+    pub fn letter(self, at: usize) -> u8 {
+        self.line.get(at).copied().unwrap_or(b' ')
+    }
+
     // What stands in a field, and what from it on.
     fn field(self, k: usize) -> &'a [u8] {
         self.line.split(|b| *b == b' ').nth(k).unwrap_or(&[])
