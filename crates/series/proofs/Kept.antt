@@ -5,7 +5,7 @@ use Rattle.decimal.specs.Place.{Placed}
 use Rattle.decimal.specs.PlaceLaws.{placed_fitting, put_front}
 use Rattle.series.specs.Steps.{Known, constant, code, takes, after, Formed, Lower, here, there, bytes_of}
 use Rattle.series.specs.Bytes.{Heads, NoHead, as_constant, as_code, first_same}
-use Rattle.series.specs.Nearest.{Fits, Found, NoneFits, Least, Next, Top, known_below, first_fits, equally, takes_0_to_3, takes_4_to_6, takes_7_to_9, takes_10_to_12, takes_beyond, none_risen, advanced}
+use Rattle.series.specs.Nearest.{Fits, Found, NoneFits, Least, Next, Top, first_fits, takes_0_to_3, takes_4_to_6, takes_7_to_9, takes_10_to_12, takes_beyond, none_risen, advanced}
 use Rattle.series.specs.Nearest as nearest
 use Rattle.series.specs.Series.{found, listed, effect, effect_of}
 
