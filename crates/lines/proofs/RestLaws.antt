@@ -1,15 +1,16 @@
 -- Laws of what is answered from a place of a line on.
-use Rattle.std.specs.Prelude.{◌≡◌, refl, Bool, true, false, cond, List, [], ◌∷◌, ◌++◌, ℕ, ◌+◌, ◌-◌, ◌≤◌, ◌<◌, eqb, ltb, length, map, take, get_or, set, Result, Some}
+use Rattle.std.specs.Prelude.{◌≡◌, refl, Bool, true, false, cond, List, [], ◌∷◌, ◌++◌, ℕ, ℤ, ◌+◌, ◌-◌, ◌≤◌, ◌<◌, eqb, ltb, length, map, take, get_or, set, Result, Some}
 use Rattle.std.proofs.Common.{sym, ap, ap₂, ◌∙◌, arith, eq-eqb, ne_eqb, length-append, append_assoc, take-suc-set, add-one, eqb-true}
 use Rattle.std.proofs.lemmas.Bool.{eqb-false}
 use Rattle.std.proofs.lemmas.List.{get_or-take, map-append}
+use Rattle.std.proofs.Math.ListN.{get_or-map}
 use Rattle.directed.specs.declared.Interval.{Interval}
 use Rattle.directed.specs.declared.Cause.{Cause}
 use Rattle.directed.specs.declared.Rounding.{Rounding}
 use Rattle.directed.specs.Thousandths.{Pair}
-use Rattle.directed.specs.Lift.{interval}
+use Rattle.directed.specs.Lift.{interval, pair_of, pair_in}
+use Rattle.directed.specs.declared.Ends.{Ends}
 use Rattle.directed.specs.Answer.{Outcome, value, refusal, outcome, built}
-use Rattle.directed_laws.specs.Stored.{stored_interval, equation_interval}
 use Rattle.text.specs.declared.Found.{Found}
 use Rattle.text.specs.Answer.{read}
 use Rattle.lines.specs.declared.Operation.{Operation}
@@ -128,15 +129,15 @@ module _ (o : Operation) (r : Rounding) where
           rw (e, n, t)
 
 -- the operation on what stands in memory
-module _ (r : Rounding) (read : List Interval) (d : Interval) where
-  nth : (n : ℕ) {xs : List Interval} → take n read ≡ xs → (i : ℕ) → i < n → get_or read i d ≡ get_or xs i d
-  nth n e i h = sym (get_or-take n read i d h) ∙ ap (λ l. get_or l i d) e
+module _ (r : Rounding) (read : List (Ends ℤ)) (d : Ends ℤ) where
+  nth : (n : ℕ) {xs : List Pair} → map pair_in (take n read) ≡ xs → (i : ℕ) → i < n → pair_in (get_or read i d) ≡ get_or xs i (pair_in d)
+  nth n e i h = ap pair_in (sym (get_or-take n read i d h)) ∙ sym (get_or-map pair_in (take n read) i d) ∙ ap (λ l. get_or l i (pair_in d)) e
 
-  pub applied-computed : (o : Operation) (qs : List Pair) → length qs ≡ wants o → take (wants o) read ≡ map interval qs
-      → applied o r (get_or read 0 d) (get_or read 1 d) (get_or read 2 d) ≡ computed r o qs
+  pub applied-computed : (o : Operation) (qs : List Pair) → length qs ≡ wants o → map pair_in (take (wants o) read) ≡ qs
+      → applied o r (pair_in (get_or read 0 d)) (pair_in (get_or read 1 d)) (pair_in (get_or read 2 d)) ≡ computed r o qs
   unfolding applied computed
-  applied-computed (Two op) (a ∷ b ∷ []) h e = rw (nth 2 e 0 (omega arith), nth 2 e 1 (omega arith)) (stored_interval r op a b)
-  applied-computed Equation (a ∷ c ∷ b ∷ []) h e = rw (nth 3 e 0 (omega arith), nth 3 e 1 (omega arith), nth 3 e 2 (omega arith)) (equation_interval r a c b)
+  applied-computed (Two op) (a ∷ b ∷ []) h e = rw (nth 2 e 0 (omega arith), nth 2 e 1 (omega arith)) refl
+  applied-computed Equation (a ∷ c ∷ b ∷ []) h e = rw (nth 3 e 0 (omega arith), nth 3 e 1 (omega arith), nth 3 e 2 (omega arith)) refl
   applied-computed (Two op) [] h e = absurd (omega arith)
   applied-computed (Two op) (a ∷ []) h e = absurd (omega arith)
   applied-computed (Two op) (a ∷ b ∷ c ∷ qs) h e = absurd (omega arith)
@@ -151,10 +152,10 @@ pub wants_most : (o : Operation) → wants o ≤ 3
 wants_most (Two op) = omega arith
 wants_most Equation = omega arith
 
-pub reading_first : (s : List ℕ) (begin : ℕ) (o : Operation) (r : Rounding) (read : List Interval) → Reading s begin o r read 0 begin
+pub reading_first : (s : List ℕ) (begin : ℕ) (o : Operation) (r : Rounding) (read : List (Ends ℤ)) → Reading s begin o r read 0 begin
 reading_first s begin o r read = record { done = []; many = refl; stored = refl; same_end = refl; same = onward-all o r (fields_from s begin) }
 
-module _ {s : List ℕ} {begin : ℕ} {o : Operation} {r : Rounding} {memory : List Interval} {i from : ℕ} (k : Reading s begin o r memory i from) where
+module _ {s : List ℕ} {begin : ℕ} {o : Operation} {r : Rounding} {memory : List (Ends ℤ)} {i from : ℕ} (k : Reading s begin o r memory i from) where
   -- a field that is refused
   pub turn_refused : (n : ℕ) → i ≤ wants o → read (field_text s from) ≡ refusal n
       → operate (Some o) r (fields_from s begin) ≡ refusal (counted n (wants o - i) (length (fields_from s from)))
@@ -172,7 +173,7 @@ module _ {s : List ℕ} {begin : ℕ} {o : Operation} {r : Rounding} {memory : L
     turn_few h n = sym k.same ∙ ap (onward o r k.done) (field_last s from here h) ∙ onward-few o r k.done (field_text s from) (λ q. n (omega (arith, k.many)))
 
     -- a pair
-    module _ (a : Interval) (reads : built (read (field_text s from)) ≡ value a) (room : i < length memory) where
+    module _ (a : Interval) (reads : built (read (field_text s from)) ≡ value a) (e : Ends ℤ) (same_ends : pair_in e ≡ pair_of a) (room : i < length memory) where
       found : (v : Pair) × (read (field_text s from) ≡ value v) × (a ≡ interval v)
       found = go (read (field_text s from)) reads
         where
@@ -180,16 +181,16 @@ module _ {s : List ℕ} {begin : ℕ} {o : Operation} {r : Rounding} {memory : L
           go (value v) e = (v, refl, cc)
           go (refusal n) e = let z : ◌≡◌ {A = ℕ} 0 1 = cc in absurd (omega arith)
 
-      stored : take (i + 1) (set memory i a) ≡ map interval (k.done ++ (found.0 ∷ []))
-      stored = rw (add-one, take-suc-set memory i a room) (ap₂ (λ xs x. xs ++ (x ∷ [])) k.stored found.2 ∙ sym (map-append interval k.done (found.0 ∷ [])))
+      stored : map pair_in (take (i + 1) (set memory i e)) ≡ k.done ++ (found.0 ∷ [])
+      stored = rw (add-one, take-suc-set memory i e room) (map-append pair_in (take i memory) (e ∷ []) ∙ ap₂ (λ xs x. xs ++ (x ∷ [])) k.stored (same_ends ∙ ap pair_of found.2))
 
-      pub turn_last : (d : Interval) → (get_or s (field_end s from) 0 ≡ 32 → ⊥) → i + 1 ≡ wants o
-          → operate (Some o) r (fields_from s begin) ≡ applied o r (get_or (set memory i a) 0 d) (get_or (set memory i a) 1 d) (get_or (set memory i a) 2 d)
+      pub turn_last : (d : Ends ℤ) → (get_or s (field_end s from) 0 ≡ 32 → ⊥) → i + 1 ≡ wants o
+          → operate (Some o) r (fields_from s begin) ≡ applied o r (pair_in (get_or (set memory i e) 0 d)) (pair_in (get_or (set memory i e) 1 d)) (pair_in (get_or (set memory i e) 2 d))
       turn_last d h n =
           sym k.same ∙ ap (onward o r k.done) (field_last s from here h) ∙ onward-last o r k.done (field_text s from) found.0 found.1 (omega (arith, k.many))
-          ∙ sym (applied-computed r (set memory i a) d o (k.done ++ (found.0 ∷ [])) (simp length-append (omega (arith, k.many))) (ap (λ m. take m (set memory i a)) (sym n) ∙ stored))
+          ∙ sym (applied-computed r (set memory i e) d o (k.done ++ (found.0 ∷ [])) (simp length-append (omega (arith, k.many))) (ap (λ m. map pair_in (take m (set memory i e))) (sym n) ∙ stored))
 
-      pub turn_next : get_or s (field_end s from) 0 ≡ 32 → Reading s begin o r (set memory i a) (i + 1) (field_end s from + 1)
+      pub turn_next : get_or s (field_end s from) 0 ≡ 32 → Reading s begin o r (set memory i e) (i + 1) (field_end s from + 1)
       turn_next h = record {
         done = k.done ++ (found.0 ∷ []);
         many = simp length-append (omega (arith, k.many));
