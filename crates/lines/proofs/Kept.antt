@@ -17,6 +17,10 @@ pub mod Cut
 pub mod Rest
 pub mod Ended
 pub mod Stream
+pub mod Letters
+pub mod Alone
+pub mod LineLaws
+pub mod Causes
 
 -- ---- a byte that stands nowhere, looked for from the front and from behind
 module _ (x : ℕ) where
