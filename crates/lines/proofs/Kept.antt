@@ -21,6 +21,7 @@ pub mod Letters
 pub mod Alone
 pub mod LineLaws
 pub mod Causes
+pub mod PairField
 
 -- ---- a byte that stands nowhere, looked for from the front and from behind
 module _ (x : ℕ) where
