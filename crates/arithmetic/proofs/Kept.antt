@@ -1,5 +1,5 @@
 -- Laws that no proof cites any more, and that stand.
-use Rattle.std.specs.Prelude.{◌≡◌, refl, true, false, ℤ, pos, neg_ℤ}
+use Rattle.std.specs.Prelude.{◌≡◌, true, false, ℤ, pos, neg_ℤ}
 use Rattle.std.proofs.Common.{sym}
 use Rattle.std.specs.Int.Signed.{lt_z}
 use Rattle.integers.specs.Floor.{floor}

@@ -1,5 +1,5 @@
 -- Laws that no proof cites any more, and that stand: an end behind its mark, and a text that `)` ends, a value and the place behind it apart.
-use Rattle.std.specs.Prelude.{◌≡◌, ℕ, ◌+◌, ◌-◌, ◌≤◌, ◌<◌, ℤ, nat_abs, List, length, get_or, None}
+use Rattle.std.specs.Prelude.{◌≡◌, ℕ, ◌-◌, ◌≤◌, ◌<◌, ℤ, nat_abs, List, length, get_or, None}
 use Rattle.std.proofs.Common.{sym}
 use Rattle.directed.specs.Answer.{refusal, within_range}
 use Rattle.text.specs.Answer.{found}

@@ -1,11 +1,11 @@
 -- Laws that no proof cites any more, and that stand.
-use Rattle.std.specs.Prelude.{◌≡◌, refl, Bool, true, false, List, [], ◌∷◌, ◌++◌, ℕ, suc, ◌+◌, ◌-◌, ◌≤◌, ◌<◌, ◌↔◌, ltb, leb, length, take, drop, get_or}
-use Rattle.std.proofs.Common.{sym, ap, ◌∙◌, arith, true≢false, ltb-true, ltb-false, take_at, le-leb}
+use Rattle.std.specs.Prelude.{◌≡◌, refl, Bool, true, false, List, [], ◌∷◌, ◌++◌, ℕ, ◌+◌, ◌-◌, ◌≤◌, ◌<◌, ◌↔◌, ltb, leb, length, take}
+use Rattle.std.proofs.Common.{sym, ◌∙◌, arith, true≢false, ltb-true, ltb-false, take_at, le-leb}
 use Rattle.decimal.specs.Place.{Placed}
 use Rattle.decimal.specs.PlaceLaws.{placed_fitting, put_front}
-use Rattle.series.specs.Steps.{Known, constant, code, takes, after, Formed, Lower, here, there, bytes_of}
-use Rattle.series.specs.Bytes.{Heads, NoHead, as_constant, as_code, first_same}
-use Rattle.series.specs.Nearest.{Fits, Found, NoneFits, Least, Next, Top, known_below, first_fits, equally, takes_0_to_3, takes_4_to_6, takes_7_to_9, takes_10_to_12, takes_beyond, none_risen, advanced}
+use Rattle.series.specs.Steps.{Known, constant, code, takes, Formed, Lower, bytes_of}
+use Rattle.series.specs.Bytes.{as_constant, as_code}
+use Rattle.series.specs.Nearest.{Fits, Least, Top, takes_0_to_3, takes_4_to_6, takes_7_to_9, takes_10_to_12, takes_beyond}
 use Rattle.series.specs.Nearest as nearest
 use Rattle.series.specs.Series.{found, listed, effect, effect_of}
 pub mod Bytes

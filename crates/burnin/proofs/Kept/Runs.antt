@@ -1,5 +1,5 @@
 -- Laws that no proof cites any more, and that stand: the loop over the series, its lists in a buffer.
-use Rattle.std.specs.Prelude.{◌≡◌, refl, List, ◌∷◌, ℕ, ◌+◌, ◌≤◌, ◌<◌, length, take}
+use Rattle.std.specs.Prelude.{◌≡◌, refl, List, ℕ, ◌+◌, ◌≤◌, ◌<◌, length, take}
 use Rattle.std.proofs.Common.{ap, arith}
 use Rattle.series.specs.Series.{series, byte_lists, Told, first_of, next_of}
 use Rattle.series.specs.Generator.{Counted, Calls, series_run}

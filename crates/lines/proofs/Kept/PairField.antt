@@ -8,7 +8,6 @@ use Rattle.directed.specs.Answer.{refusal, within_range}
 use Rattle.text.specs.declared.Found.{Found}
 use Rattle.text.specs.Answer.{read, found, line_front}
 use Rattle.text.specs.TextLaws.{Short}
-use Rattle.text.proofs.FrontLaws as today
 use Rattle.text.proofs.Kept.FrontLaws.{Front}
 use Rattle.lines.specs.Cut.{stop, field_end, field_text, IsEndedLines}
 use Rattle.lines.specs.PairField as laws

@@ -1,6 +1,6 @@
 -- Laws that no proof cites any more, and that stand: the exchange of codes, known or not.
 use Rattle.std.specs.Prelude.{◌≡◌, refl, true, List, map, ℕ, suc, length, drop, Option, Some, None, option_map, set}
-use Rattle.std.proofs.Common.{ap, ◌∙◌}
+use Rattle.std.proofs.Common.{◌∙◌}
 use Rattle.directed.specs.declared.Binary.TheVariants.{Join, Meet}
 use Rattle.lists.specs.declared.Step.{Step}
 use Rattle.lists.specs.declared.Step.TheVariants.{Two}

@@ -1,5 +1,5 @@
 -- Laws that no proof cites any more, and that stand: a row of the table, as a place of a list that has something everywhere.
-use Rattle.std.specs.Prelude.{◌≡◌, refl, Bool, true, List, [], ◌∷◌, map, ℕ, zero, suc, ◌+◌, get_or, Option, Some, None, slice_get}
+use Rattle.std.specs.Prelude.{◌≡◌, refl, Bool, true, List, [], ◌∷◌, map, ℕ, zero, suc, ◌+◌, get_or, Some, None, slice_get}
 use Rattle.std.proofs.Common.{◌∙◌}
 use Rattle.lists.specs.declared.Step.{Step}
 use Rattle.lists.specs.Steps.{codes, code_of}

@@ -1,5 +1,5 @@
 -- Laws that no proof cites any more, and that stand: a number of constants as a byte, and what was read, 6 steps for nothing.
-use Rattle.std.specs.Prelude.{◌≡◌, List, [], ◌∷◌, ℕ, ◌+◌, ◌≤◌, ◌<◌, length, take}
+use Rattle.std.specs.Prelude.{◌≡◌, List, [], ◌∷◌, ℕ, ◌≤◌, ◌<◌, length, take}
 use Rattle.std.proofs.Common.{arith}
 use Rattle.series.specs.Steps.{Formed, Member}
 use Rattle.series.specs.Series.{next_of, refused, effect, effect_of}

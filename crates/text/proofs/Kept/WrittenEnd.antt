@@ -1,5 +1,5 @@
 -- Laws that no proof cites any more, and that stand: an end as 01 writes it, at a place, its value and the place behind it apart.
-use Rattle.std.specs.Prelude.{◌≡◌, ◌≢◌, ℕ, ◌-◌, ◌≤◌, true, false, List, length, drop, ℤ, slice_index, None}
+use Rattle.std.specs.Prelude.{◌≡◌, ℕ, ◌-◌, ◌≤◌, true, false, List, length, drop, ℤ, slice_index, None}
 use Rattle.std.proofs.Math.Path.{sym}
 use Rattle.text.specs.Text.{point}
 use Rattle.text.specs.Form.{end_form}
