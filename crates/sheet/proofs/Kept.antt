@@ -1,17 +1,12 @@
 -- Laws that no proof cites any more, and that stand: the running sum's first state and its next, number by number.
-use Rattle.std.specs.Prelude.{◌≡◌, false, ℕ, ◌+◌, ◌≤◌, List, length, ℤ, pos, nat_abs}
-use Rattle.integers.specs.Sizes.{product_bound}
+use Rattle.std.specs.Prelude.{◌≡◌, false, ℕ, ◌+◌, ◌≤◌, List, length, ℤ, pos}
 use Rattle.directed.specs.Thousandths.{beyond_range}
 use Rattle.directed.specs.declared.Ends.{Ends}
+use Rattle.arithmetic.proofs.Kept.{Sized}
 use Rattle.sheet.specs.Millionths.{product_of}
 use Rattle.sheet.specs.declared.sum.Part.{Part}
 use Rattle.sheet.specs.Running as running
 use Rattle.sheet.specs.Running.{pair_at, tray_at, plus, Running}
-
--- ends of a product are no larger than a product
-pub record Sized (p : Ends ℤ) : Type 0 where
-  pub low : nat_abs p.lower ≤ product_bound
-  pub high : nat_abs p.upper ≤ product_bound
 
 abbrev pub sum_of_four : ℤ → ℤ → ℤ → ℤ → Ends Part
 sum_of_four lower lower_rest upper upper_rest = record { lower = record { thousandths = lower; rest = lower_rest }; upper = record { thousandths = upper; rest = upper_rest } }
