@@ -22,6 +22,9 @@ use Rattle.series.specs.Returned.{Stands, stands, no_list}
 use Rattle.burnin.specs.Input.{pair_bytes, printed}
 use Rattle.burnin.specs.Printed.{number_short}
 use Rattle.burnin.specs.Lists.{eight, expanded}
+pub mod Lists
+pub mod Stages
+pub mod Runs
 
 -- ---- where a line ends, looked for byte by byte
 module _ (s : List ℕ) (at : ℕ) where
@@ -75,28 +78,6 @@ bytes_behind (q ∷ ps) p = append_assoc (pair_bytes q) (all_bytes ps) (pair_byt
 
 pub wrote_length : {t d l : List ℕ} {next : ℕ} → Wrote t 0 d next l → 0 + length t ≤ length d → length l ≡ length d
 wrote_length {t} {d} w h = ap length w.buffer_is ∙ put-length t d 0 h
-
--- ---- how long a list gets: a constant has no more than 8 bytes
-pub eight-length : (ps : List Pair) (p : ℕ) → length (eight (map pair_bytes ps) p) ≤ 8
-unfolding eight
-eight-length [] p = omega arith
-eight-length (q ∷ ps) zero = omega arith
-eight-length (q ∷ ps) (suc p) = eight-length ps p
-
-module _ (c : List (List ℕ)) (short : (p : ℕ) → length (eight c p) ≤ 8) where
-  pub expanded-length : (b : List ℕ) → length (expanded (eight c) b) ≤ 5 * length b
-  unfolding expanded
-  expanded-length [] = omega arith
-  expanded-length (x ∷ []) = omega arith
-  expanded-length (x ∷ p ∷ b) = go (eqb x 0) (expanded-length b) (expanded-length (p ∷ b))
-    where
-      go : (t : Bool) → length (expanded (eight c) b) ≤ 5 * length b → length (expanded (eight c) (p ∷ b)) ≤ 5 * length (p ∷ b)
-          → length (cond t (x ∷ (eight c p ++ expanded (eight c) b)) (x ∷ expanded (eight c) (p ∷ b))) ≤ 5 * length (x ∷ p ∷ b)
-      go true i j = omega (arith, length-append (eight c p) (expanded (eight c) b), short p)
-      go false i j = omega arith
-
-  pub expanded-room : (b : List ℕ) → length b ≤ 10 → length (expanded (eight c) b) ≤ 64
-  expanded-room b h = omega (arith, expanded-length b)
 
 leb-more : (x m n : ℕ) → leb (x + m) (x + n) ≡ leb m n
 leb-more x m n = go (leb m n) refl

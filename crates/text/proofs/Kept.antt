@@ -3,6 +3,9 @@ use Rattle.std.specs.Prelude.{◌≡◌, refl, ℕ, ◌-◌, ◌<◌, ◌≤◌,
 use Rattle.std.proofs.Common.{arith}
 use Rattle.decimal.specs.Digits.{is_digit}
 use Rattle.decimal.specs.DigitLaws.{digit_bounds}
+pub mod ReadLaws
+pub mod FrontLaws
+pub mod WrittenEnd
 
 -- r is what the byte b is worth as a digit, and above 9 where it is none
 pub record Digit (b r : ℕ) : Type 0 where
