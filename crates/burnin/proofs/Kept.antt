@@ -1,5 +1,5 @@
 -- Laws that no proof cites any more, and that stand.
-use Rattle.std.specs.Prelude.{◌≡◌, refl, Bool, true, false, cond, not, Result, Ok, Err, List, [], ◌∷◌, ◌++◌, map, ℕ, zero, suc, ◌+◌, ◌-◌, ◌*◌, ◌≤◌, ◌<◌, ℤ, eqb, leb, length, take, drop, get_or, if◌then◌else◌}
+use Rattle.std.specs.Prelude.{◌≡◌, refl, Bool, true, false, cond, not, Result, Ok, Err, List, [], ◌∷◌, ◌++◌, map, ℕ, zero, suc, ◌+◌, ◌-◌, ◌*◌, ◌≤◌, ◌<◌, ◌^◌, ℤ, eqb, leb, length, take, drop, get_or, if◌then◌else◌}
 use Rattle.std.proofs.Common.{sym, ap, ap₂, ◌∙◌, le-leb, leb-true, leb-false, drop-drop, arith, add-zero, true≢false, append_assoc, length-append, length-drop, drop-cons, drop_of_length-le, length-take-le, take_at, eq-eqb, ne_eqb, eqb-true}
 use Rattle.std.proofs.lemmas.Bool.{false≢true, eqb-false, lt-leb}
 use Rattle.std.proofs.lemmas.List.{append-nil}
@@ -12,13 +12,19 @@ use Rattle.directed.specs.Answer.{number}
 use Rattle.directed.specs.Kind.{rank}
 use Rattle.directed.specs.KindLaws.{rank-injective}
 use Rattle.directed_laws.specs.Answer.{number-injective}
+use Rattle.directed.specs.Located.{refusal}
+use Rattle.decimal.specs.Digits.{decimal}
 use Rattle.decimal.specs.Place.{Placed, over}
-use Rattle.decimal.specs.PlaceLaws.{Wrote, placed_fitting, put_front, put-length}
+use Rattle.decimal.specs.PlaceLaws.{Wrote, placed_fitting, fitting_then, put_front, put-length}
 use Rattle.lines.specs.Cut.{first_line, line_end}
 use Rattle.series.specs.Series.{Told, found}
 use Rattle.series.specs.Returned.{Stands, stands, no_list}
-use Rattle.burnin.specs.Input.{pair_bytes}
+use Rattle.burnin.specs.Input.{pair_bytes, printed}
+use Rattle.burnin.specs.Printed.{number_short}
 use Rattle.burnin.specs.Lists.{eight, expanded}
+pub mod Lists
+pub mod Stages
+pub mod Runs
 
 -- ---- where a line ends, looked for byte by byte
 module _ (s : List ℕ) (at : ℕ) where
@@ -72,28 +78,6 @@ bytes_behind (q ∷ ps) p = append_assoc (pair_bytes q) (all_bytes ps) (pair_byt
 
 pub wrote_length : {t d l : List ℕ} {next : ℕ} → Wrote t 0 d next l → 0 + length t ≤ length d → length l ≡ length d
 wrote_length {t} {d} w h = ap length w.buffer_is ∙ put-length t d 0 h
-
--- ---- how long a list gets: a constant has no more than 8 bytes
-pub eight-length : (ps : List Pair) (p : ℕ) → length (eight (map pair_bytes ps) p) ≤ 8
-unfolding eight
-eight-length [] p = omega arith
-eight-length (q ∷ ps) zero = omega arith
-eight-length (q ∷ ps) (suc p) = eight-length ps p
-
-module _ (c : List (List ℕ)) (short : (p : ℕ) → length (eight c p) ≤ 8) where
-  pub expanded-length : (b : List ℕ) → length (expanded (eight c) b) ≤ 5 * length b
-  unfolding expanded
-  expanded-length [] = omega arith
-  expanded-length (x ∷ []) = omega arith
-  expanded-length (x ∷ p ∷ b) = go (eqb x 0) (expanded-length b) (expanded-length (p ∷ b))
-    where
-      go : (t : Bool) → length (expanded (eight c) b) ≤ 5 * length b → length (expanded (eight c) (p ∷ b)) ≤ 5 * length (p ∷ b)
-          → length (cond t (x ∷ (eight c p ++ expanded (eight c) b)) (x ∷ expanded (eight c) (p ∷ b))) ≤ 5 * length (x ∷ p ∷ b)
-      go true i j = omega (arith, length-append (eight c p) (expanded (eight c) b), short p)
-      go false i j = omega arith
-
-  pub expanded-room : (b : List ℕ) → length b ≤ 10 → length (expanded (eight c) b) ≤ 64
-  expanded-room b h = omega (arith, expanded-length b)
 
 leb-more : (x m n : ℕ) → leb (x + m) (x + n) ≡ leb m n
 leb-more x m n = go (leb m n) refl
@@ -194,3 +178,13 @@ tells_causes {c} {d} {j} {k} {m} {n} s p q =
     (λ e. let f : c ≡ d = number-injective c d (sym p ∙ e ∙ q) in λ i. refused (f i) (s i))
     (λ e. let f : refusal_at c j ≡ refusal_at d k = cc in p ∙ ap (λ (x : Refusal ℕ). number x.cause) f ∙ sym q)
     (tells_numbers m n)
+
+-- ---- a refusal's line, put together
+module _ {d d₁ d₂ d₃ d₄ : List ℕ} {i j k m : ℕ} (room : 32 ≤ length d) where
+  pub refusal-wrote : {d₅ : List ℕ} {e : ℕ} (n line : ℕ) → n < 2 ^ 32 → line < 2 ^ 32
+      → Placed (82 ∷ 32 ∷ []) 0 d i d₁ → Placed (decimal n) i d₁ j d₂ → Placed (32 ∷ []) j d₂ k d₃ → Placed (decimal line) k d₃ m d₄ → Placed (10 ∷ []) m d₄ e d₅
+      → Wrote (printed (refusal n line)) 0 d e d₅
+  unfolding printed
+  refusal-wrote n line h f p q r s t =
+      fitting_then (placed_fitting p) (fitting_then (placed_fitting q) (fitting_then (placed_fitting r) (fitting_then (placed_fitting s) (placed_fitting t))))
+      (omega (arith, length-append (decimal n) (32 ∷ (decimal line ++ (10 ∷ []))), length-append (decimal line) (10 ∷ []), number_short n h, number_short line f))

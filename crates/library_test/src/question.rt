@@ -3,7 +3,7 @@
 ghost use Rattle.std.specs.Prelude.{◌≤◌, ◌<◌};
 
 use arrayvec::ArrayVec;
-use directed::{Interval, Kind};
+use directed::{Interval, Kind, Rounding};
 
 // The bytes that a question gives; those behind the first 1,024 are dropped.
 pub type Bytes = ArrayVec<u8, 1024>;
@@ -52,6 +52,20 @@ fn signed(field: &[u8]) -> i32 {
 }
 
 impl<'a> Question<'a> {
+    // The way that stands in front: inward with an `I`, else outward.
+    pub fn rounding(self) -> Rounding {
+        if self.line.starts_with(b"I") {
+            Rounding::Inward
+        } else {
+            Rounding::Outward
+        }
+    }
+
+    // The letter at a place of the line, or a space behind its end.
+    pub fn letter(self, at: usize) -> u8 {
+        self.line.get(at).copied().unwrap_or(b' ')
+    }
+
     // What stands in a field, and what from it on.
     fn field(self, k: usize) -> &'a [u8] {
         self.line.split(|b| *b == b' ').nth(k).unwrap_or(&[])

@@ -13,6 +13,15 @@ use Rattle.lines.specs.Line.{with_pair, two, three, operate}
 use Rattle.lines.specs.Cut.{some-field, first_line, ends_field, stop, fields_from, field_end, scan_hit, scan_miss}
 use Rattle.lines.specs.Rest.{limited, counted}
 use Rattle.lines.proofs.RestLaws.{built-limited}
+pub mod Cut
+pub mod Rest
+pub mod Ended
+pub mod Stream
+pub mod Letters
+pub mod Alone
+pub mod LineLaws
+pub mod Causes
+pub mod PairField
 
 -- ---- a byte that stands nowhere, looked for from the front and from behind
 module _ (x : ℕ) where

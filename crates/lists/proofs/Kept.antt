@@ -8,6 +8,8 @@ use Rattle.lists.specs.Lists.{refusal, Expression, stepped, at_end, read}
 use Rattle.lists.specs.Endings.{Passed}
 use Rattle.lists.specs.Walk as walk
 use Rattle.lists.specs.Walk.{Passes, admitted_at}
+pub mod Table
+pub mod Exchange
 
 -- the bytes behind the code at i, as a part of a slice gives them
 abbrev pub behind : List ℕ → ℕ → List ℕ

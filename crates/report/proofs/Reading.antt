@@ -1,11 +1,11 @@
 -- How far the input is read: what was read is whole blocks, and the tally is theirs. r are the bytes of the input, r' those that are left.
-use Rattle.std.specs.Prelude.{◌≡◌, ℕ, ◌+◌, ◌≤◌, ◌<◌, Option, None, Some, IfSome, Result, Ok, Err, OnOk}
+use Rattle.std.specs.Prelude.{◌≡◌, ℕ, ◌≤◌, ◌<◌, Option, None, Some, IfSome, Result, Ok, Err, OnOk}
 use Rattle.std.specs.Io.KnownBytes.{Appends, Consumes, IsAtEnd}
 use Rattle.std.proofs.Common.{sym, ap, subst, ◌∙◌, arith}
 use Rattle.std.proofs.KnownBytes.{Consumes-nil, Consumes-trans, Consumes-whole}
 use mathlib.Core.List.{List, [], ◌∷◌, ◌++◌, flatten}
-use Rattle.std.proofs.Math.ListN.{length, take, drop}
-use Rattle.std.proofs.Math.Seq.{take-add, take_all}
+use Rattle.std.proofs.Math.ListN.{length, take}
+use Rattle.std.proofs.Math.Seq.{take_all}
 use Rattle.directed.specs.Located.{Located, refusal}
 use Rattle.day.specs.File.{Total, report, line}
 use Rattle.day.specs.FileLaws.{flatten-snoc}

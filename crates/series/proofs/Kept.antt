@@ -1,13 +1,16 @@
 -- Laws that no proof cites any more, and that stand.
-use Rattle.std.specs.Prelude.{◌≡◌, refl, Bool, true, false, List, [], ◌∷◌, ◌++◌, ℕ, suc, ◌+◌, ◌-◌, ◌≤◌, ◌<◌, ◌↔◌, ltb, leb, length, take, drop, get_or}
-use Rattle.std.proofs.Common.{sym, ap, ◌∙◌, arith, true≢false, ltb-true, ltb-false, take_at, le-leb}
+use Rattle.std.specs.Prelude.{◌≡◌, refl, Bool, true, false, List, [], ◌∷◌, ◌++◌, ℕ, ◌+◌, ◌-◌, ◌≤◌, ◌<◌, ◌↔◌, ltb, leb, length, take}
+use Rattle.std.proofs.Common.{sym, ◌∙◌, arith, true≢false, ltb-true, ltb-false, take_at, le-leb}
 use Rattle.decimal.specs.Place.{Placed}
 use Rattle.decimal.specs.PlaceLaws.{placed_fitting, put_front}
-use Rattle.series.specs.Steps.{Known, constant, code, takes, after, Formed, Lower, here, there, bytes_of}
-use Rattle.series.specs.Bytes.{Heads, NoHead, as_constant, as_code, first_same}
-use Rattle.series.specs.Nearest.{Fits, Found, NoneFits, Least, Next, Top, known_below, first_fits, equally, takes_0_to_3, takes_4_to_6, takes_7_to_9, takes_10_to_12, takes_beyond, none_risen, advanced}
+use Rattle.series.specs.Steps.{Known, constant, code, takes, Formed, Lower, bytes_of}
+use Rattle.series.specs.Bytes.{as_constant, as_code}
+use Rattle.series.specs.Nearest.{Fits, Least, Top, takes_0_to_3, takes_4_to_6, takes_7_to_9, takes_10_to_12, takes_beyond}
 use Rattle.series.specs.Nearest as nearest
 use Rattle.series.specs.Series.{found, listed, effect, effect_of}
+pub mod Bytes
+pub mod Nearest
+pub mod Generator
 
 -- ---- the table of the steps
 pub constant_takes : (d : ℕ) → d < 4 → takes d ≡ 0
@@ -69,32 +72,6 @@ least_none k = record { formed = refl; long = refl; least = go }
     go [] g l = elim l [ ]
     go (f ∷ fs) g l = elim l [ ]
 
-pub least_more : (k w r d : ℕ) (ds : List ℕ) → Found k w r 0 d → Least k (after w d) r ds → Least k w (suc r) (d ∷ ds)
-least_more k w r d ds f l =
-    let i = f.fits in
-    record { formed = (i.known, i.enough, l.formed); long = ap suc l.long; least = go }
-  where
-    go : (fs : List ℕ) → Formed k w fs → Lower fs (d ∷ ds) → ⊥
-    go [] g l = elim l [ ]
-    go (b ∷ fs) g (here p q) = f.first b (omega arith) p (rw (← l.long, ← q) (first_fits k w b fs g))
-    go (b ∷ fs) g (there p q) = l.least fs (rw p at g.2) q
-
-module _ (k w d : ℕ) (ds : List ℕ) where
-  pub next_found : (e : ℕ) (es : List ℕ) → Top k (after w d) ds → Found k w (length ds) (d + 1) e → Least k (after w e) (length ds) es → Next k w (d ∷ ds) (e ∷ es)
-  next_found e es t f l =
-      let i = f.fits in
-      let m : d < e = omega (arith, f.from) in
-      record { formed = (i.known, i.enough, l.formed); higher = here m (sym l.long); nearest = go }
-    where
-      go : (fs : List ℕ) → Formed k w fs → Lower (d ∷ ds) fs → Lower fs (e ∷ es) → ⊥
-      go [] g l z = elim l [ ]
-      go (b ∷ fs) g (here p q) (here p' q') = f.first b (omega arith) p' (rw q (first_fits k w b fs g))
-      go (b ∷ fs) g (here p q) (there p' q') = l.least fs (rw p' at g.2) q'
-      go (b ∷ fs) g (there p q) z = t.none fs (rw (← p) at g.2) q
-
-  pub top_found : k ≤ 4 → Top k (after w d) ds → NoneFits k w (length ds) (d + 1) → Top k w (d ∷ ds)
-  top_found m t n = advanced k w d (length ds + 1) ds [] false refl t (none_risen k w (d + 1) (length ds) (length ds + 1) m refl n)
-
 -- ---- what a step leaves at the front of its bytes
 pub data Front (k d x : ℕ) (b : List ℕ) : Type 0 where
   at_constant : d < k → x ≡ 0 → (c : List ℕ) → b ≡ d ∷ c → Front k d x b
@@ -110,52 +87,6 @@ front k d x b c m (code a z) e =
     let q : (d - 3) ∷ c ≡ x ∷ b = rw (as_code d a) at e in
     let o : x ≡ d - 3 = cc in
     at_code a z o
-
-pub none-there : (k x : ℕ) (b : List ℕ) → k ≤ 4 → ((d : ℕ) → Front k d x b → ⊥) → NoHead k (x ∷ b)
-none-there k x b m n = record { none = λ d c u e. n d (front k d x b c m u e) }
-
-module _ (k : ℕ) (m : k ≤ 4) where
-  -- no other step stands there
-  pub heads_only : (b : List ℕ) (r : ℕ) (t : List ℕ) → Heads k b r t → (d : ℕ) (c : List ℕ) → Known k d → bytes_of d ++ c ≡ b → d ≡ r
-  heads_only b r t h d c u e = (first_same k d r c t m u h.known (e ∙ h.stands)).0
-
-  pub heads_short : (l : List ℕ) → 1 ≤ length l → get_or l 0 0 ≡ 0 → length l < 2 → NoHead k l
-  heads_short [] h z i = absurd (omega arith)
-  heads_short (x ∷ y ∷ b) h z i = absurd (omega arith)
-  heads_short (x ∷ []) h z i = none-there k x [] m go
-    where
-      go : (d : ℕ) → Front k d x [] → ⊥
-      go d (at_constant a o c e) = omega (arith, ap length e)
-      go d (at_code a b o) = omega arith
-
-  pub heads_constant : (l : List ℕ) → 2 ≤ length l → get_or l 0 0 ≡ 0 → get_or l 1 0 < k → Heads k l (get_or l 1 0) (drop 2 l)
-  heads_constant [] h z i = absurd (omega arith)
-  heads_constant (x ∷ []) h z i = absurd (omega arith)
-  heads_constant (x ∷ p ∷ b) h z i = record { known = constant i; stands = rw (as_constant p (omega arith), z) }
-
-  pub heads_beyond : (l : List ℕ) → 2 ≤ length l → get_or l 0 0 ≡ 0 → k ≤ get_or l 1 0 → NoHead k l
-  heads_beyond [] h z i = absurd (omega arith)
-  heads_beyond (x ∷ []) h z i = absurd (omega arith)
-  heads_beyond (x ∷ p ∷ b) h z i = none-there k x (p ∷ b) m go
-    where
-      go : (d : ℕ) → Front k d x (p ∷ b) → ⊥
-      go d (at_constant a o c e) = let q : p ≡ d = cc in omega arith
-      go d (at_code a b o) = omega arith
-
-  pub heads_code : (l : List ℕ) → 1 ≤ length l → (get_or l 0 0 ≡ 0 → ⊥) → get_or l 0 0 < 10 → Heads k l (get_or l 0 0 + 3) (drop 1 l)
-  heads_code [] h z i = absurd (omega arith)
-  heads_code (x ∷ b) h z i = record {
-    known = code (omega (arith, z)) (omega arith);
-    stands = let e : x + 3 - 3 ≡ x = omega arith in rw (as_code (x + 3) (omega (arith, z)), e);
-  }
-
-  pub heads_none : (l : List ℕ) → 1 ≤ length l → 10 ≤ get_or l 0 0 → NoHead k l
-  heads_none [] h i = absurd (omega arith)
-  heads_none (x ∷ b) h i = none-there k x b m go
-    where
-      go : (d : ℕ) → Front k d x b → ⊥
-      go d (at_constant a o c e) = omega arith
-      go d (at_code a b o) = omega arith
 
 -- the bytes t that stand at the front of a buffer of zeros go to the front of d
 pub put_room : (t d z : List ℕ) {n i : ℕ} {l : List ℕ} → n ≡ length t → n ≤ length d → Placed (take n (t ++ z)) 0 d i l → effect (listed n) l ≡ effect_of (found t) d

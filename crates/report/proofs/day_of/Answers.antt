@@ -1,5 +1,5 @@
 -- A block more; at the end a short one, or none; a refusal decides.
-use Rattle.std.proofs.Common.{arith, take, length-take}
+use Rattle.std.proofs.Common.{arith, length-take}
 use Rattle.report.proofs.Reading.{read-none, read-block, read-end, read-refused}
 use Rattle.report.proofs.day_of.Goals as goal
 

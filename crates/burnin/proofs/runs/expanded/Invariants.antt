@@ -4,7 +4,7 @@ use Rattle.burnin.specs.Lists.{Filling}
 use Rattle.burnin.proofs.runs.expanded.Given as goal
 
 abbrev pub invariant-loop-code : goal.invariant-loop-code
-invariant-loop-code l = Filling l.constants l.list l.bytes.items l.rest
+invariant-loop-code l = Filling l.constants l.list.items l.bytes.items l.rest
 
 abbrev pub decreases-loop-code : goal.decreases-loop-code
 decreases-loop-code l = length l.rest

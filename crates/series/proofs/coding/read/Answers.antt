@@ -6,32 +6,32 @@ use Rattle.series.proofs.Reading.{no_step, too_few, too_long, read_end, passed_m
 use Rattle.series.proofs.coding.read.Goals as goal
 
 pub loop-rest-init : goal.loop-rest-init
-loop-rest-init c = rw (c.new-steps.ensures, c.requires) (record { few = omega arith; same = refl; passed = passed_none c.args.empty.constants c.args.list.now })
+loop-rest-init c = rw (c.new-steps.ensures, c.empty-stage.ensures.constants, c.empty-stage.ensures.waiting) (record { few = omega arith; same = refl; passed = passed_none c.args.constants.count c.args.list.now })
 
 pub returns-then-is_full : goal.returns-then-is_full
 returns-then-is_full c = let p = c.loop-rest.invariant in
-    too_long c.args.empty.few p.passed 5 (eqb-false _ _ (sym c.loop-rest-test.ensures)) (eqb-true _ _ (sym c.if-is_full.ensures.value))
+    too_long c.args.constants.few p.passed 5 (eqb-false _ _ (sym c.loop-rest-test.ensures)) (eqb-true _ _ (sym c.if-is_full.ensures.value))
 
 pub returns-in_err-step : goal.returns-in_err-step
 returns-in_err-step c = let p = c.loop-rest.invariant in
-    rw c.from_residual.ensures (no_step c.args.empty.few p.passed 5 (eqb-false _ _ (sym c.loop-rest-test.ensures)) (rw p.same at c.in_err-step.ensures))
+    rw c.from_residual.ensures (no_step c.args.constants.few p.passed 5 (eqb-false _ _ (sym c.loop-rest-test.ensures)) c.in_err-step.ensures)
 
 pub returns-then-stage-taken : goal.returns-then-stage-taken
 returns-then-stage-taken c = let p = c.loop-rest.invariant in
-    too_few c.args.empty.few p.passed 5 c.in_ok-step.step c.in_ok-step.behind.now (eqb-false _ _ (sym c.loop-rest-test.ensures)) (rw p.same at c.in_ok-step.ensures) (omega (arith, c.taken.ensures, c.if-stage-taken.true))
+    too_few c.args.constants.few p.passed 5 c.in_ok-step.step c.in_ok-step.behind.now (eqb-false _ _ (sym c.loop-rest-test.ensures)) c.in_ok-step.ensures (omega (arith, c.taken.ensures, c.if-stage-taken.true))
 
 pub behind-stage-requires : goal.behind-stage-requires
 behind-stage-requires c = let p = c.loop-rest.invariant in
-    (omega (arith, waiting_few c.args.empty.few p.passed, p.few), omega (arith, c.taken.ensures, c.if-stage-taken.false))
+    (omega (arith, waiting_few c.args.constants.few p.passed, p.few), omega (arith, c.taken.ensures, c.if-stage-taken.false))
 
 pub loop-rest-preserved : goal.loop-rest-preserved
 loop-rest-preserved c = let p = c.loop-rest.invariant in
     record {
       few = omega (arith, c.push.ensures.len, p.few, eqb-false _ _ (sym c.if-is_full.ensures.value));
       same = c.behind-stage.ensures.constants ∙ p.same;
-      passed = rw c.push.ensures.items (passed_more c.args.empty.few p.passed c.in_ok-step.step c.in_ok-step.behind.now (rw p.same at c.in_ok-step.ensures) (omega (arith, c.taken.ensures, c.if-stage-taken.false)) c.behind-stage.ensures.waiting);
+      passed = rw c.push.ensures.items (passed_more c.args.constants.few p.passed c.in_ok-step.step c.in_ok-step.behind.now c.in_ok-step.ensures (omega (arith, c.taken.ensures, c.if-stage-taken.false)) c.behind-stage.ensures.waiting);
     }
 
 pub returns : goal.returns
 returns c = let p = c.loop-rest.invariant in
-    rw c.then_some.ensures (read_end c.args.empty.few p.passed 5 (λ (y : ArrayVec ℕ). y.items) c.loop-rest.steps _ (eqb-true _ _ (sym c.loop-rest-test.ensures)) refl p.few refl)
+    rw c.then_some.ensures (read_end c.args.constants.few p.passed 5 (λ (y : ArrayVec ℕ). y.items) c.loop-rest.steps _ (eqb-true _ _ (sym c.loop-rest-test.ensures)) refl p.few refl)

@@ -12,6 +12,6 @@ found_or_none k w r a (Some d) h = record { from = h.0; to = h.1; fits = h.2; fi
 
 pub returns : goal.returns
 returns c = let s = c.args.self in
-    let F : _ = Fits s.constants s.waiting c.args.left in
-    found_or_none s.constants s.waiting c.args.left c.args.from c.find.result
+    let F : _ = Fits s.constants.count s.waiting c.args.left in
+    found_or_none s.constants.count s.waiting c.args.left c.args.from c.find.result
     (first_from_Range _ _ _ _ F (λ d. F d → ⊥) c.find.ensures.ran (λ x q k. search rules) (λ x q k. search rules))

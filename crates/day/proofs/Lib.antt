@@ -1,0 +1,2 @@
+-- A law that no proof cites any more, and that stands.
+pub mod Kept
