@@ -21,7 +21,7 @@ use Rattle.series.specs.Series.{Told, found}
 use Rattle.series.specs.Returned.{Stands, stands, no_list}
 use Rattle.burnin.specs.Input.{pair_bytes, printed}
 use Rattle.burnin.specs.Printed.{number_short}
-use Rattle.burnin.specs.Lists.{eight, expanded}
+use Rattle.burnin.specs.Lists.{eight}
 pub mod Lists
 pub mod Stages
 pub mod Runs

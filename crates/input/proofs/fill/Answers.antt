@@ -10,12 +10,6 @@ behind : (r r' r'' : Option (List ℕ)) (held n : ℕ) (old new : List ℕ) → 
     → Consumes r' r'' (take n (drop held new)) → Consumes r r'' (take (held + n) new)
 behind r r' r'' held n old new c e d = rw (take-add held n new) (Consumes-trans r r' r'' _ _ (rw (sym e) at c) d)
 
-pub returns-then-n-eq0-clause-consumed : goal.returns-then-n-eq0-clause-consumed
-returns-then-n-eq0-clause-consumed g c =
-    let h = c.loop-held in
-    let z : h.held + 0 ≡ h.held = omega arith in
-    rw z at (behind _ (g.R.Read.remaining h.from) _ h.held 0 h.buffer _ h.invariant.consumed c.in_ok-n.ensures.kept (rw c.if-n-eq0.true at c.in_ok-n.ensures.consumed))
-
 pub loop-held-preserved : goal.loop-held-preserved
 loop-held-preserved g c = record {
   within = omega (arith, c.in_ok-n.ensures.within);
