@@ -1,13 +1,14 @@
-// A question: its fields, cut at every space and counted from 0, and the numbers and bytes in them. Any bytes are taken: a byte that is no digit
-// counts as 0, and a field that is not there is empty.
+//! A question: its fields, cut at every space and counted from 0, and the numbers and bytes in them. Any bytes are taken: a byte that is no digit
+//! counts as 0, and a field that is not there is empty.
 ghost use Rattle.std.specs.Prelude.{◌≤◌, ◌<◌};
 
 use arrayvec::ArrayVec;
 use directed::{Interval, Kind, Rounding};
 
-// The bytes that a question gives; those behind the first 1,024 are dropped.
+/// The bytes that a question gives; those behind the first 1,024 are dropped.
 pub type Bytes = ArrayVec<u8, 1024>;
 
+/// A line that asks something.
 #[derive(Clone, Copy)]
 pub struct Question<'a> {
     pub line: &'a [u8],
@@ -27,7 +28,7 @@ fn byte_of(high: u8, low: u8) -> u8 {
     digit(high) * 16 + digit(low)
 }
 
-// A digit more, as long as the number has fewer than ten.
+/// A digit more, as long as the number has fewer than ten.
 fn next_number(number: u64, b: u8) -> u64 {
     if number < 1_000_000_000 {
         number * 10 + digit(b) as u64
@@ -40,7 +41,7 @@ fn number(field: &[u8]) -> u64 {
     field.iter().fold(0, |number, b| next_number(number, *b))
 }
 
-// A number with its sign, held to 32 bits.
+/// A number with its sign, held to 32 bits.
 fn signed(field: &[u8]) -> i32 {
     let has_minus = field.contains(&b'-');
     match i32::try_from(number(field)) {
@@ -52,7 +53,7 @@ fn signed(field: &[u8]) -> i32 {
 }
 
 impl<'a> Question<'a> {
-    // The way that stands in front: inward with an `I`, else outward.
+    /// The way that stands in front: inward with an `I`, else outward.
     pub fn rounding(self) -> Rounding {
         if self.line.starts_with(b"I") {
             Rounding::Inward
@@ -61,12 +62,12 @@ impl<'a> Question<'a> {
         }
     }
 
-    // The letter at a place of the line, or a space behind its end.
+    /// The letter at a place of the line, or a space behind its end.
     pub fn letter(self, at: usize) -> u8 {
         self.line.get(at).copied().unwrap_or(b' ')
     }
 
-    // What stands in a field, and what from it on.
+    /// What stands in a field, and what from it on.
     fn field(self, k: usize) -> &'a [u8] {
         self.line.split(|b| *b == b' ').nth(k).unwrap_or(&[])
     }
@@ -80,15 +81,17 @@ impl<'a> Question<'a> {
             .unwrap_or(&[])
     }
 
+    /// The number in a field.
     pub fn size(self, k: usize) -> usize {
         number(self.field(k)) as usize
     }
 
+    /// The number in a field, held to 32 bits.
     pub fn unsigned(self, k: usize) -> u32 {
         u32::try_from(number(self.field(k))).unwrap_or(u32::MAX)
     }
 
-    // The interval whose ends are in these two fields, with the kind of its ends or, where a third field has a letter at its place, with that kind.
+    /// The interval whose ends are in these two fields, with the kind of its ends or, where a third field has a letter at its place, with that kind.
     pub fn interval(self, lower: usize, upper: usize, letters: usize, place: usize) -> Interval {
         let a = self.ends(lower, upper);
         let kind = match self.field(letters).get(place) {
@@ -101,11 +104,12 @@ impl<'a> Question<'a> {
         Interval { kind, ..a }
     }
 
+    /// The interval whose ends are in these two fields, with their kind.
     pub fn ends(self, lower: usize, upper: usize) -> Interval {
         Interval::new(signed(self.field(lower)), signed(self.field(upper)))
     }
 
-    // The bytes from a place of the line on, two hexadecimal digits and a space each.
+    /// The bytes from a place of the line on, two hexadecimal digits and a space each.
     pub fn bytes(self, from: usize) -> Bytes {
         let mut bytes = ArrayVec::new();
         for part in self.line.get(from..).unwrap_or(&[]).chunks(3) {
@@ -116,7 +120,7 @@ impl<'a> Question<'a> {
         bytes
     }
 
-    // The bytes from a field on, in runs: `00*1fb` and a space is the byte 00, 1fb (507) times.
+    /// The bytes from a field on, in runs: `00*1fb` and a space is the byte 00, 1fb (507) times.
     pub fn runs(self, k: usize) -> Bytes
         requires { k < 10 }
     {
