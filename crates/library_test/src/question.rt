@@ -14,6 +14,7 @@ pub struct Question<'a> {
     pub line: &'a [u8],
 }
 
+/// What a byte counts as a digit, to 15. Any byte counts, so no `parse` of std does it, which refuses; here and in `next_number`.
 fn digit(b: u8) -> u8
     ensures { result ≤ 15 }
 {
@@ -62,16 +63,17 @@ impl<'a> Question<'a> {
         }
     }
 
-    /// The letter at a place of the line, or a space behind its end.
-    pub fn letter(self, at: usize) -> u8 {
-        self.line.get(at).copied().unwrap_or(b' ')
+    /// The letter at a place of the line, if it is as long.
+    pub fn letter(self, at: usize) -> Option<u8> {
+        self.line.get(at).copied()
     }
 
-    /// What stands in a field, and what from it on.
+    /// What stands in a field.
     fn field(self, k: usize) -> &'a [u8] {
         self.line.split(|b| *b == b' ').nth(k).unwrap_or(&[])
     }
 
+    /// What stands from a field on.
     fn from_field(self, k: usize) -> &'a [u8]
         requires { k < 10 }
     {
