@@ -10,7 +10,7 @@ use Rattle.directed.specs.Located.{Located, refusal}
 use Rattle.day.specs.File.{Total, report, line}
 use Rattle.day.specs.FileLaws.{flatten-snoc}
 use Rattle.day.specs.Tally.{Count, first, step, told}
-use Rattle.day.specs.Stream.{Led, start, part, block, closed, cut_anyhow, decided}
+use Rattle.day.specs.Stream.{Led, start, part, block, closed, cut_anyhow, decided, Told, told-end, told_early}
 
 pub record Read (r r' : Option (List ℕ)) (t : Located Count) : Type 0 where
   pub reads : List (List ℕ)
@@ -42,6 +42,13 @@ whatever (Some x) (Some y) s P c f = subst P (sym c) (f y)
 
 pub read-refused : {r r' : Option (List ℕ)} {n place : ℕ} → Read r r' (refusal n place) → IfSome r (λ s. refusal n place ≡ report s)
 read-refused {r} {r'} s = whatever r r' (flatten s.reads) _ s.consumed (decided s.way)
+
+-- where the bytes of the input are not known
+pub told-last : {r r' : Option (List ℕ)} {t : Located Count} (b : List ℕ) → Read r r' t → length b < 512 → Told (told (closed t b))
+told-last b s h = told-end (record { reads = s.reads ++ (b ∷ []); way = part b s.way h })
+
+pub told_first : {r r' : Option (List ℕ)} {n place : ℕ} → Read r r' (refusal n place) → Told (refusal n place)
+told_first s = told_early (record { reads = s.reads; way = s.way })
 
 -- the line of what is told is that of the report
 pub written : {E : Type 0} (r : Result (Unit {0}) E) (known a b : Option (List ℕ)) (t : Located Total) (l : List ℕ) → OnOk r (Appends a b l) → l ≡ line t

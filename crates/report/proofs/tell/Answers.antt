@@ -13,4 +13,4 @@ slice_bounds-text-end g c =
 
 pub returns-clause-written : goal.returns-clause-written
 returns-clause-written g c =
-    written c.write_all.result _ _ _ _ _ c.write_all.ensures.bytes (wrote_front (placed_fitting c.put_line-n.ensures.placed (omega (arith, c.put_line-n.ensures.bounded)))) c.in_ok-day.ensures
+    written c.write_all.result _ _ _ _ _ c.write_all.ensures.bytes (wrote_front (placed_fitting c.put_line-n.ensures.placed (omega (arith, c.put_line-n.ensures.bounded)))) c.in_ok-day.ensures.known
