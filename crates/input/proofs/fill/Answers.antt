@@ -13,5 +13,5 @@ behind r r' r'' held n old new c e d = rw (take-add held n new) (Consumes-trans 
 pub loop-held-preserved : goal.loop-held-preserved
 loop-held-preserved g c = record {
   within = omega (arith, c.in_ok-n.ensures.within);
-  consumed = behind _ (g.R.Read.remaining c.loop-held.from) _ c.loop-held.held _ c.loop-held.buffer _ c.loop-held.invariant.consumed c.in_ok-n.ensures.kept c.in_ok-n.ensures.consumed;
+  consumed = behind _ (g.R.Source.remaining c.loop-held.from) _ c.loop-held.held _ c.loop-held.buffer _ c.loop-held.invariant.consumed c.in_ok-n.ensures.kept c.in_ok-n.ensures.consumed;
 }

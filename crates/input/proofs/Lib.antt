@@ -1,0 +1,2 @@
+-- How many bytes are read.
+pub mod Amount
