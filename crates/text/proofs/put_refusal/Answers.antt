@@ -1,29 +1,10 @@
--- Its parts, each behind the last, and how long they are: a cause's number is a byte's.
-use Rattle.decimal.specs.Digits.{decimal}
-use Rattle.decimal.specs.DigitLaws.{decimal-length, width-le}
-use Rattle.decimal.specs.PlaceLaws.{placed_fitting, placed_as, fitting_then}
-use Rattle.directed.specs.Answer.{number}
-use Rattle.std.proofs.Common.{[], ◌∷◌, ◌++◌, ◌<◌, ap, arith, length-append}
-use Rattle.text.specs.Refused.{refusal_line}
+-- Put together, the line fills the front of what it is put together in.
+use Rattle.std.proofs.Common.{sym, length-take-le}
+use Rattle.decimal.specs.PlaceLaws.{wrote_within, wrote_front, placed_as}
 use Rattle.text.proofs.put_refusal.Goals as goal
 
-pub returns : goal.returns
-unfolding refusal_line
-returns c =
-    let n = number c.args.why.cause in
-    let place = decimal c.args.why.place in
-    let small : n < 256 = omega (arith, c.number.type_inv, c.number.ensures) in
-    record {
-      put = fitting_then (placed_fitting c.put_bytes-behind_mark.ensures)
-          (fitting_then (placed_fitting (placed_as (ap decimal c.number.ensures) c.put_number-space.ensures))
-          (fitting_then (placed_fitting c.put_byte-behind_space.ensures) (fitting_then (placed_fitting c.put_number-end.ensures) (placed_fitting c.put_byte.ensures))));
-      bounded = omega (
-        arith,
-        length-append (decimal n) (32 ∷ (place ++ (10 ∷ []))),
-        length-append place (10 ∷ []),
-        decimal-length n,
-        decimal-length c.args.why.place,
-        width-le n 3 (omega arith) (omega arith),
-        width-le c.args.why.place 10 (omega arith) (omega arith),
-      );
-    }
+pub slice_bounds-put_bytes-end : goal.slice_bounds-put_bytes-end
+slice_bounds-put_bytes-end c = sym (length-take-le _ _ (wrote_within c.fill_refusal-n.ensures.put))
+
+pub returns-clause-placed : goal.returns-clause-placed
+returns-clause-placed c = placed_as (wrote_front c.fill_refusal-n.ensures.put) c.put_bytes.ensures
