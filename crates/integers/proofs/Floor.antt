@@ -1,6 +1,7 @@
 -- Laws of quotients rounded down and up: their universal properties, and how code computes them.
 use Rattle.std.specs.Prelude.{◌↔◌, ◌≡◌, refl, ℕ, ◌<◌, ◌/◌, ◌≤◌, suc, ◌*◌, ℤ, pos, negsuc, nat_abs, ◌+ℤ◌, ◌-ℤ◌, neg_ℤ, ◌*ℤ◌, ◌≤ℤ◌, ◌<ℤ◌}
 use Rattle.std.proofs.Common.{◌∙◌, ap, le-div_iff_mul-le, div-lt_iff_lt-mul, div-le_self, mul-pos, arith}
+use Rattle.std.specs.Int.{int_div_euclid}
 use Rattle.std.specs.Int.Signed.{quot_z, mag, ≤ℤ_refl}
 use Rattle.integers.specs.Floor.{floor_nat, floor, ceiling}
 use Rattle.integers.specs.Complement.{minus_one}
@@ -47,7 +48,14 @@ ceiling-iff k n d z =
     let e = neg-fac k n d in
     ((λ h. e.0 (f.0 (g.0 h))), (λ h. g.1 (f.1 (e.1 h))))
 
--- how code computes it, with quotients of naturals: -1 - (-1 - n) / d where n is below 0
+-- how code computes it: the quotient whose rest is not below zero, by a divisor above zero
+pub floor-euclid : (n d : ℤ) → pos 0 <ℤ d → int_div_euclid n d ≡ floor n d
+unfolding floor floor_nat
+floor-euclid (pos n) (pos d) h = refl
+floor-euclid (negsuc n) (pos d) h = refl
+floor-euclid n (negsuc d) h = absurd h.lt
+
+-- and with quotients of naturals: -1 - (-1 - n) / d where n is below 0
 minus_one' : (m : ℕ) → negsuc 0 -ℤ pos m ≡ negsuc m
 minus_one' m = omega (lin, sum (negsuc 0) (neg_ℤ (pos m)), minus (pos m))
 
