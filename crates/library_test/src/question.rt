@@ -5,8 +5,10 @@ ghost use Rattle.std.specs.Prelude.{◌≤◌, ◌<◌};
 use arrayvec::ArrayVec;
 use directed::{Interval, Kind, Rounding};
 
-/// The bytes that a question gives; those behind the first 1,024 are dropped.
-pub type Bytes = ArrayVec<u8, 1024>;
+/// How many bytes a question can give; those behind them are dropped.
+const ROOM: usize = 1024;
+
+pub type Bytes = ArrayVec<u8, ROOM>;
 
 /// A line that asks something.
 #[derive(Clone, Copy)]
@@ -111,10 +113,10 @@ impl<'a> Question<'a> {
         Interval::new(signed(self.field(lower)), signed(self.field(upper)))
     }
 
-    /// The bytes from a place of the line on, two hexadecimal digits and a space each.
+    /// The bytes from a place of the line on, two hexadecimal digits and a space each; what is behind the last that find room is not gone through.
     pub fn bytes(self, from: usize) -> Bytes {
         let mut bytes = ArrayVec::new();
-        for part in self.line.get(from..).unwrap_or(&[]).chunks(3) {
+        for part in self.line.get(from..).unwrap_or(&[]).chunks(3).take(ROOM) {
             if let [high, low, ..] = part {
                 let _ = bytes.try_push(byte_of(*high, *low));
             }
@@ -130,7 +132,7 @@ impl<'a> Question<'a> {
         for run in self.from_field(k).chunks(7) {
             if let [high, low, _, a, b, c, ..] = run {
                 let n = digit(*a) as usize * 256 + byte_of(*b, *c) as usize;
-                for _ in 0..n {
+                for _ in 0..n.min(bytes.remaining_capacity()) {
                     let _ = bytes.try_push(byte_of(*high, *low));
                 }
             }
