@@ -19,11 +19,17 @@ static void constant(int32_t lower, int32_t upper)
             list[length++] = (uint8_t)(ends[end] >> (8 * byte));
 }
 
-/* A constant and 60 steps with one operand, or 30 with two. */
+/* A constant and 60 steps with one operand, or 30 with two; a constant alone; one whose code is unknown, 6; two, 11. */
 static void make_list(const char *sort)
 {
     constant(-1234, 5678);
-    if (strcmp(sort, "unary") == 0)
+    if (strcmp(sort, "one") == 0)
+        return;
+    if (strcmp(sort, "unknown") == 0)
+        list[0] = 255;
+    else if (strcmp(sort, "open") == 0)
+        constant(997, 1002);
+    else if (strcmp(sort, "unary") == 0)
         for (int i = 0; i < 60; i++)
             list[length++] = (uint8_t)(DZB_CODE_NEGATION + i % 3);
     else
@@ -67,10 +73,14 @@ static void make_list(const char *sort)
     DO("line-R5", LINE("O D [1.000,2.000] [0.000,1.000]")) \
     DO("line-R1", LINE("O M x [1,2]")) \
     DO("list-none", dzb_list(list, 0, inward, r)) \
+    DO("list-one", dzb_list(list, length, inward, r)) \
+    DO("list-unknown", dzb_list(list, length, inward, r)) \
+    DO("list-open", dzb_list(list, length, inward, r)) \
     DO("list-unary", dzb_list(list, length, inward, r)) \
     DO("list-sum", dzb_list(list, length, inward, r)) \
     DO("list-product", dzb_list(list, length, inward, r)) \
     DO("list-quotient", dzb_list(list, length, inward, r)) \
+    DO("within-none", dzb_list_within(list, 0, inward, 5, 9, r)) \
     DO("burnin-unary", dzb_burnin_list(list, length, inward, 16, 64, r)) \
     DO("burnin-sum", dzb_burnin_list(list, length, inward, 16, 64, r))
 
